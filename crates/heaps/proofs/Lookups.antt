@@ -1,0 +1,102 @@
+-- Laws of the lookups. Assumes nothing.
+use mathlib.Core.Path.{_≡_, refl, sym, ap, subst, subst⁻¹}
+use mathlib.Core.List.{List, [], _∷_}
+use mathlib.Core.Bool.{cond}
+use mathlib.Core.Option.{Option, none, some}
+use Prim.Native.Nat.{ℕ, zero, suc, _+_, _≤_, _<_, zero-le}
+use native.Mathlib.Numerals.{add-one}
+use native.Mathlib.Omega.{arith}
+use borrow.Author.Tests.{eq-eqb, ne-eqb, lt-ltb, le-ltb, le-leb, lt-leb}
+use lib.ListN.{length, getD, drop, length-drop, drop-of-length-le}
+use lib.Seq.{drop-cons}
+use Rattle.numbers.specs.Reading.{Res, someAt, noneAt}
+use Rattle.numbers.specs.Compressed.{uint}
+use Rattle.numbers.proofs.Pick.{pick-lt, pick-le, pick-eq}
+use Rattle.heaps.specs.Lookups.{before, stringAt, bytesAt, blobAt, Inside}
+use Rattle.heaps.specs.declared.Absence.the-variants.{NullIndex, PastEnd, NoZero, NoBlob}
+use Rattle.heaps.specs.declared.Part.{Part}
+use Rattle.heaps.specs.declared.Part.the-variants.{Found, Absent}
+
+-- A search at a position, in the form of the loop's invariant: what is still before the byte, and where it will be found.
+module _ (x : ℕ) (s : List ℕ) (i : ℕ) {e : ℕ} (inv : i + before x (drop i s) ≡ e) where
+  pub find-end : length s ≤ i → i ≡ e
+  unfolding before
+  find-end h = let none-left : before x (drop i s) ≡ 0 = rw (drop-of-length-le s h) in omega arith
+
+  module _ (h : i < length s) where
+    pub find-hit : getD s i 0 ≡ x → i ≡ e
+    unfolding before
+    find-hit k = let here : before x (drop i s) ≡ 0 = rw (drop-cons s i 0 h, eq-eqb _ _ k) in omega arith
+
+    pub find-step : (getD s i 0 ≡ x → ⊥) → i + 1 + before x (drop (i + 1) s) ≡ e
+    unfolding before
+    find-step n =
+        let further : before x (drop i s) ≡ 1 + before x (drop (i + 1) s) = rw (drop-cons s i 0 h, ne-eqb _ _ n, add-one i) (omega arith) in
+        omega arith
+
+before-most : (x : ℕ) (s : List ℕ) → before x s ≤ length s
+unfolding before
+before-most x [] = zero-le
+before-most x (b ∷ s) = pick-eq (λ (n : ℕ). n ≤ suc (length s)) b x (λ _. zero-le) (λ _. omega (arith, before-most x s))
+
+-- A search that begins within the bytes ends within them.
+pub find-within : (x : ℕ) (s : List ℕ) (from : ℕ) → from ≤ length s → from + before x (drop from s) ≤ length s
+find-within x s from h = omega (arith, before-most x (drop from s), length-drop from s)
+
+-- The ways through a string's lookup.
+module _ (s : List ℕ) (i : ℕ) where
+  pub string-null : i ≡ 0 → Absent NullIndex ≡ stringAt s i
+  unfolding stringAt
+  string-null e = simp (eq-eqb _ _ e)
+
+  module _ (n : i ≡ 0 → ⊥) where
+    pub string-past : length s ≤ i → Absent PastEnd ≡ stringAt s i
+    unfolding stringAt
+    string-past h = simp (ne-eqb _ _ n, le-leb _ _ h)
+
+    module _ (h : i < length s) where
+      pub string-open : length s ≤ i + before 0 (drop i s) → Absent NoZero ≡ stringAt s i
+      unfolding stringAt
+      string-open k = simp (ne-eqb _ _ n, lt-leb _ _ h, le-ltb _ _ k)
+
+      pub string-found : i + before 0 (drop i s) < length s → (l : ℕ) → l ≡ before 0 (drop i s) → Found i l ≡ stringAt s i
+      unfolding stringAt
+      string-found k l e = simp (ne-eqb _ _ n, lt-leb _ _ h, lt-ltb _ _ k, e)
+
+-- And through a blob's, from what its length was read as.
+module _ (s : List ℕ) (i : ℕ) where
+  pub blob-none : {n : ℕ} → noneAt n ≡ uint s i → Absent NoBlob ≡ blobAt s i
+  unfolding blobAt bytesAt
+  blob-none e = rw (← e)
+
+  pub blob-found : {n l : ℕ} → someAt l n ≡ uint s i → n + l ≤ length s → Found n l ≡ blobAt s i
+  unfolding blobAt bytesAt
+  blob-found e h = rw (← e, le-leb _ _ h)
+
+  pub blob-cut : {n l : ℕ} → someAt l n ≡ uint s i → length s < n + l → Absent NoBlob ≡ blobAt s i
+  unfolding blobAt bytesAt
+  blob-cut e h = rw (← e, lt-leb _ _ h)
+
+-- What is found lies in its heap.
+pub string-inside : (s : List ℕ) (i : ℕ) → Inside s (stringAt s i)
+unfolding stringAt
+string-inside s i =
+    pick-eq (Inside s) i 0 (λ _. zero-le)
+    (λ _. pick-le (Inside s) (length s) i (λ _. zero-le)
+    (λ _. pick-lt (Inside s) (i + before 0 (drop i s)) (length s) (λ k. omega arith) (λ _. zero-le)))
+
+bytes-inside : (s : List ℕ) (o : Option ℕ) (at : ℕ) → Inside s (bytesAt s o at)
+unfolding bytesAt
+bytes-inside s none at = zero-le
+bytes-inside s (some n) at = pick-le (Inside s) (at + n) (length s) (λ h. h) (λ _. zero-le)
+
+pub blob-inside : (s : List ℕ) (i : ℕ) → Inside s (blobAt s i)
+unfolding blobAt
+blob-inside s i = bytes-inside s (uint s i .got) (uint s i .next)
+
+-- The same, for a caller that has matched the answer.
+pub string-within : (s : List ℕ) (i : ℕ) {start n : ℕ} → Found start n ≡ stringAt s i → start + n ≤ length s
+string-within s i e = subst⁻¹ (Inside s) e (string-inside s i)
+
+pub blob-within : (s : List ℕ) (i : ℕ) {start n : ℕ} → Found start n ≡ blobAt s i → start + n ≤ length s
+blob-within s i e = subst⁻¹ (Inside s) e (blob-inside s i)

@@ -1,0 +1,115 @@
+// Lookups in the strings heap and the blob heap (ECMA-335 II.24.2.3, II.24.2.4): as positions, for the layers above, and as the very
+// part of the heap, for the library's users.
+use buffers::Refusal;
+use numbers::Uint;
+ghost use mathlib.Core.Path.{_≡_};
+ghost use Prim.Native.Nat.{_+_};
+ghost use lib.ListN.{drop};
+ghost use Rattle.heaps.specs.Lookups.{before, stringAt, blobAt, Inside, Handed, Looked};
+
+// Which heap is meant.
+pub enum Heap {
+    Strings,
+    Blobs,
+}
+
+// Why a lookup finds nothing. Replies do not show it: each is refusal 7.
+pub enum Absence {
+    NullIndex,
+    PastEnd,
+    NoZero,
+    NoBlob,
+}
+
+// Where in its heap the bytes of a lookup are.
+pub enum Part {
+    Found { start: usize, len: usize },
+    Absent(Absence),
+}
+
+// The position of the first x at or after another, or the end.
+pub fn find_byte(s: &[u8], from: usize, x: u8) -> usize
+    ensures { λ r. ⌜ r ≡ from + before x (drop from (now (s .entry))) ⌝ }
+{
+    let mut i = from;
+    while i < s.len() {
+        if s[i] == x {
+            return i;
+        }
+        i += 1;
+    }
+    i
+}
+
+pub fn get_string(strings: &[u8], index: usize) -> Part
+    ensures { λ r. ⌜ r ≡ stringAt (now (strings .entry)) index ⌝ }
+{
+    if index == 0 {
+        return Part::Absent(Absence::NullIndex);
+    }
+    if strings.len() <= index {
+        return Part::Absent(Absence::PastEnd);
+    }
+    let end = find_byte(strings, index, 0);
+    if strings.len() <= end {
+        return Part::Absent(Absence::NoZero);
+    }
+    Part::Found {
+        start: index,
+        len: end - index,
+    }
+}
+
+pub fn get_blob(blobs: &[u8], index: usize) -> Part
+    ensures { λ r. ⌜ r ≡ blobAt (now (blobs .entry)) index ⌝ }
+{
+    match numbers::read_uint(blobs, index) {
+        Uint::Number(n, start) => {
+            let len = n as usize;
+            if blobs.len() < start + len {
+                return Part::Absent(Absence::NoBlob);
+            }
+            Part::Found { start, len }
+        }
+        Uint::NoNumber(_) => Part::Absent(Absence::NoBlob),
+    }
+}
+
+// The part of a heap that a lookup found, with 0 beside it; or an empty part, with 7.
+fn hand<'a>(s: &'a [u8], p: Part, refusal: &mut u8) -> &'a [u8]
+    requires { ⌜ Inside (now s) p ⌝ }
+    ensures { λ r. ⌜ Handed r (s .entry) p (now (refusal .exit)) ⌝ }
+{
+    match p {
+        Part::Found { start, len } => {
+            *refusal = 0;
+            numbers::cut(s, start, len)
+        }
+        Part::Absent(_) => {
+            *refusal = buffers::refusal_number(Refusal::NotFound);
+            numbers::cut(s, 0, 0)
+        }
+    }
+}
+
+// The raw lookup: the very part of the heap that is meant, and 0 in `refusal`; or an empty part of it, and refusal 7.
+pub fn lookup<'a>(
+    strings: &'a [u8],
+    blobs: &'a [u8],
+    heap: Heap,
+    index: u32,
+    refusal: &mut u8,
+) -> &'a [u8]
+    ensures { λ r. ⌜ Looked r (strings .entry) (blobs .entry) heap index (now (refusal .exit)) ⌝ }
+{
+    match heap {
+        Heap::Strings => {
+            let p = get_string(strings, index as usize);
+            hand(strings, p, refusal)
+        }
+        Heap::Blobs => {
+            let p = get_blob(blobs, index as usize);
+            hand(blobs, p, refusal)
+        }
+    }
+}

@@ -1,0 +1,99 @@
+//! The answers as text.
+
+use crate::module::dotnet::probe::{ClassRecord, MethodRecord, Text, Walk};
+
+/// A longer value is not printed in a listing.
+const LONGEST: usize = 4096;
+
+/// How the values of the record are written.
+#[derive(Clone, Copy)]
+pub enum Style {
+    /// As they stand; a missing one like an empty one; a long one as `!`.
+    Listing,
+    /// In hex and whole, after `=`; a missing one as the key without `=`.
+    Record,
+}
+
+pub fn walk(walk: &Walk) -> Vec<u8> {
+    let mut out = String::new();
+    for (kind, extent) in walk.extents.iter().enumerate() {
+        let (start, row_size, rows) = (extent.start, extent.row_size, extent.rows);
+        out += &format!("{kind} {start} {row_size} {rows}\n");
+    }
+    out += &format!("stop={}\n", walk.stop);
+    out.into_bytes()
+}
+
+pub fn classes(stop: usize, classes: &[ClassRecord], style: Style) -> Vec<u8> {
+    let mut page = Page {
+        style,
+        out: Vec::new(),
+    };
+    page.number("stop", stop);
+    page.number("classes", classes.len());
+    for class in classes {
+        page.class(class);
+    }
+    page.out
+}
+
+struct Page {
+    style: Style,
+    out: Vec<u8>,
+}
+
+impl Page {
+    fn class(&mut self, class: &ClassRecord) {
+        self.text("class", &class.name);
+        self.number("flags", class.flags);
+        self.texts("generic", &class.generics);
+        self.texts("base", &class.bases);
+        for method in &class.methods {
+            self.method(method);
+        }
+    }
+
+    fn method(&mut self, method: &MethodRecord) {
+        self.text("method", &method.name);
+        self.number("mflags", method.flags);
+        self.texts("mgeneric", &method.generics);
+        self.text("returns", &method.returns);
+        for param in &method.params {
+            self.text("ptype", &param.typ);
+            self.text("pname", &param.name);
+        }
+    }
+
+    fn number<N: std::fmt::Display>(&mut self, key: &str, number: N) {
+        self.out.extend(format!("{key}={number}\n").into_bytes());
+    }
+
+    fn texts(&mut self, key: &str, texts: &[Text]) {
+        for text in texts {
+            self.text(key, text);
+        }
+    }
+
+    fn text(&mut self, key: &str, text: &Text) {
+        self.out.extend(key.as_bytes());
+        match self.style {
+            Style::Listing => self.listed(text.as_deref().unwrap_or_default()),
+            Style::Record => self.recorded(text.as_deref()),
+        }
+        self.out.push(b'\n');
+    }
+
+    fn listed(&mut self, text: &[u8]) {
+        self.out.push(b'=');
+        self.out
+            .extend(if text.len() > LONGEST { b"!" } else { text });
+    }
+
+    fn recorded(&mut self, text: Option<&[u8]>) {
+        let Some(text) = text else { return };
+        self.out.push(b'=');
+        for byte in text {
+            self.out.extend(format!("{byte:02x}").into_bytes());
+        }
+    }
+}
