@@ -36,3 +36,10 @@ module _ {A : Type 0} (f : ℕ → A) where
   tabulate-is d i n l e h =
       ext-getD d l (tabulate f i n) (e ∙ sym (tabulate-length i n))
       (λ k lt. let m : k < n = omega arith in h k m ∙ sym (tabulate-at d i n k m))
+
+  -- The same for a rule that begins at 0.
+  pub table-at : (d : A) (n k : ℕ) → k < n → getD (tabulate f 0 n) k d ≡ f k
+  table-at d n k h = let z : 0 + k ≡ k = omega arith in tabulate-at d 0 n k h ∙ ap f z
+
+  pub table-is : (d : A) (n : ℕ) (l : List A) → length l ≡ n → ((k : ℕ) → k < n → getD l k d ≡ f k) → l ≡ tabulate f 0 n
+  table-is d n l e h = tabulate-is d 0 n l e (λ k lt. let z : k ≡ 0 + k = omega arith in h k lt ∙ ap f z)

@@ -50,6 +50,14 @@ pub fn read_le(s: &[u8], at: usize, n: usize) -> u64
     v
 }
 
+// The same of up to four bytes.
+pub fn read_word(s: &[u8], at: usize, n: usize) -> u32
+    requires { ⌜ (n ≤ 4) × (at + n ≤ length (now s)) ⌝ }
+    ensures { λ r. ⌜ r ≡ leAt n (now (s .entry)) at ⌝ }
+{
+    read_le(s, at, n) as u32
+}
+
 fn read_fixed(s: &[u8], at: usize, n: usize) -> Uint
     requires { ⌜ n ≤ 4 ⌝ }
     ensures { λ r. ⌜ uintSays r ≡ fixed n (now (s .entry)) at ⌝ }
@@ -60,7 +68,7 @@ fn read_fixed(s: &[u8], at: usize, n: usize) -> Uint
     if s.len() - at < n {
         return Uint::NoNumber(s.len());
     }
-    Uint::Number(read_le(s, at, n) as u32, at + n)
+    Uint::Number(read_word(s, at, n), at + n)
 }
 
 pub fn read_u16(s: &[u8], at: usize) -> Uint

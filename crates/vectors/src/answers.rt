@@ -1,4 +1,5 @@
 // What each kind of case answers, as text.
+use super::walks::push_walk;
 use buffers::Refusal;
 use buffers::Reply;
 use buffers::push;
@@ -47,6 +48,9 @@ pub fn push_answer(out: &mut [u8], kind: &[u8], bytes: &[u8], number: usize) -> 
     }
     if same(kind, b"blob-at") {
         return push_place(out, heaps::get_blob(bytes, number));
+    }
+    if same(kind, b"walk") {
+        return push_walk(out, bytes, number);
     }
     if same(kind, b"name") {
         return push_name(out, bytes, number);

@@ -6,6 +6,7 @@ ghost use Prim.Native.Nat.{_≤_};
 
 mod answers;
 mod fields;
+mod walks;
 
 fn write(text: &[u8]) {
     io::write_all(1, text);

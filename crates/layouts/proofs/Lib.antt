@@ -1,0 +1,4 @@
+pub mod Reaches
+pub mod Codes
+pub mod Sizes
+pub mod Facts

@@ -1,0 +1,4 @@
+pub mod Kinds
+pub mod Columns
+pub mod Codes
+pub mod Facts

@@ -1,0 +1,4 @@
+pub mod WalkLoop
+pub mod Outcome
+pub mod Places
+pub mod Stop

@@ -1,0 +1,109 @@
+// The walk over the tables of the tables stream (ECMA-335 II.24.2.6): where each table begins, its row size and its whole rows.
+use buffers::Refusal;
+use buffers::Reply;
+use header::Opened;
+use header::Options;
+ghost use mathlib.Core.Path.{_≡_};
+ghost use Prim.Native.Nat.{_-_, _/_, _≤_, _<_, min};
+ghost use Rattle.buffers.specs.Replies.{number};
+ghost use Rattle.header.specs.Opening.{base};
+ghost use Rattle.layouts.specs.Columns.{indexSizes, widthIn, rowSize};
+ghost use Rattle.tables.specs.Extents.{walkSays, walked, refusedWalk, walkOf};
+
+// The kind at which the walk is left, 64 if there is none, or why the stream is refused; and for each kind where it begins in the
+// stream, its row size and its whole rows. The three are 0 for a kind that is empty, unknown or not reached.
+pub struct Extents {
+    pub answer: Reply,
+    pub starts: [usize; 64],
+    pub sizes: [u32; 64],
+    pub rows: [u32; 64],
+}
+
+fn wide(x: u32) -> usize
+    ensures { λ r. ⌜ r ≡ x ⌝ }
+{
+    x as usize
+}
+
+// The rows of a size that fit in the room, up to n.
+fn whole_rows(room: usize, size: u32, n: u32) -> u32
+    requires { ⌜ 0 < size ⌝ }
+    ensures { λ r. ⌜ r ≡ min n (room / size) ⌝ }
+{
+    let fit = room / wide(size);
+    if fit < wide(n) { fit as u32 } else { n }
+}
+
+fn refuse(why: Refusal) -> Extents
+    ensures { λ r. ⌜ walkSays r ≡ refusedWalk (number why) ⌝ }
+{
+    Extents {
+        answer: Reply::No(why),
+        starts: [0; 64],
+        sizes: [0; 64],
+        rows: [0; 64],
+    }
+}
+
+// The walk over tables whose first begins at a place of a stream of that length.
+fn walk_tables(len: usize, first: usize, heap: u8, counts: &[u32; 64], security: bool) -> Extents
+    requires { ⌜ first ≤ len ⌝ }
+    ensures { λ r. ⌜ walkSays r ≡ walked (rowSize (widthIn (indexSizes security heap (now (counts .entry))))) (now (counts .entry)) len first ⌝ }
+{
+    let index_sizes = layouts::index_sizes(heap, counts, security);
+    let mut starts = [0usize; 64];
+    let mut sizes = [0u32; 64];
+    let mut rows = [0u32; 64];
+    let mut at = first;
+    let mut kind = 0;
+    let stop = loop {
+        if 64 <= kind {
+            break kind;
+        }
+        let n = counts[kind];
+        if 0 < n {
+            if 45 <= kind {
+                break kind;
+            }
+            let size = layouts::row_size(index_sizes, kind);
+            let whole = whole_rows(len - at, size, n);
+            starts[kind] = at;
+            sizes[kind] = size;
+            rows[kind] = whole;
+            if whole < n {
+                break kind;
+            }
+            at += wide(n) * wide(size);
+        }
+        kind += 1;
+    };
+    Extents {
+        answer: Reply::Is(stop),
+        starts,
+        sizes,
+        rows,
+    }
+}
+
+// The walk over a stream that is opened with these options.
+pub fn walk_with(tables: &[u8], options: Options) -> Extents
+    ensures { λ r. ⌜ walkSays r ≡ walkOf options (now (tables .entry)) ⌝ }
+{
+    let h = header::open_stream(tables, options);
+    let answer = h.answer;
+    let counts = h.counts;
+    let first = h.first;
+    let heap = h.heap;
+    let security = options.security;
+    match answer {
+        Opened::Refused(why) => refuse(why),
+        Opened::Ready => walk_tables(tables.len(), first, heap, &counts, security),
+    }
+}
+
+// The walk of the base.
+pub fn walk(tables: &[u8]) -> Extents
+    ensures { λ r. ⌜ walkSays r ≡ walkOf base (now (tables .entry)) ⌝ }
+{
+    walk_with(tables, header::base_options())
+}
