@@ -1,5 +1,5 @@
 -- Laws of numbers of a fixed number of bytes, over every number of bytes. Assumes nothing.
-use mathlib.Core.Path.{_≡_, refl, ap, sym, _∙_}
+use mathlib.Core.Path.{_≡_, refl, ap, ap₂, sym, _∙_}
 use mathlib.Core.List.{List}
 use Prim.Native.Nat.{ℕ, zero, suc, _+_, _*_, _-_, _^_, _≤_, _<_, max}
 use native.Mathlib.Nat.{pow-succ', pow-le-pow-right}
@@ -15,6 +15,13 @@ pub leAt-lt : (s : List ℕ) → ((i : ℕ) → getD s i 0 < 256) → (n at : �
 unfolding leAt
 leAt-lt s bytes zero at = lit< tt
 leAt-lt s bytes (suc n) at = omega (arith, bytes at, leAt-lt s bytes n (at + 1), pow-succ' 256 n)
+
+-- A number is read off its own bytes alone.
+pub leAt-same : (t u : List ℕ) (n at : ℕ) → ((i : ℕ) → at ≤ i → i < at + n → getD u i 0 ≡ getD t i 0) → leAt n u at ≡ leAt n t at
+unfolding leAt
+leAt-same t u zero at e = refl
+leAt-same t u (suc n) at e =
+    ap₂ (λ a b. a + 256 * b) (e at (omega arith) (omega arith)) (leAt-same t u n (at + 1) (λ i a b. e i (omega arith) (omega arith)))
 
 -- The loop of `read_le`, which takes the highest byte first: v is worth the bytes from place i of the n on.
 module _ (s : List ℕ) (n at : ℕ) where

@@ -1,8 +1,8 @@
 -- Laws of `tabulate`. Assumes nothing.
-use mathlib.Core.Path.{_≡_, refl, sym, ap, _∙_}
+use mathlib.Core.Path.{_≡_, refl, sym, ap, ap₂, _∙_}
 use mathlib.Core.List.{List, [], _∷_}
-use mathlib.Core.Option.{some}
-use Prim.Native.Nat.{ℕ, zero, suc, _+_, _<_}
+use mathlib.Core.Option.{none, some}
+use Prim.Native.Nat.{ℕ, zero, suc, _+_, _≤_, _<_}
 use native.Mathlib.Nat.{add-zero}
 use native.Mathlib.Omega.{arith}
 use lib.ListN.{length, getD, getElem?}
@@ -43,3 +43,16 @@ module _ {A : Type 0} (f : ℕ → A) where
 
   pub table-is : (d : A) (n : ℕ) (l : List A) → length l ≡ n → ((k : ℕ) → k < n → getD l k d ≡ f k) → l ≡ tabulate f 0 n
   table-is d n l e h = tabulate-is d 0 n l e (λ k lt. let z : k ≡ 0 + k = omega arith in h k lt ∙ ap f z)
+
+  pub tabulate-past : (i n k : ℕ) → n ≤ k → getElem? (tabulate f i n) k ≡ none
+  unfolding tabulate
+  tabulate-past i zero k h = refl
+  tabulate-past i (suc n) zero h = absurd (omega arith)
+  tabulate-past i (suc n) (suc k) h = tabulate-past (i + 1) n k (omega arith)
+
+-- Rules that agree where they are asked give one list.
+pub tabulate-same : {A : Type 0} (f g : ℕ → A) (i n : ℕ) → ((k : ℕ) → i ≤ k → k < i + n → f k ≡ g k) → tabulate f i n ≡ tabulate g i n
+unfolding tabulate
+tabulate-same f g i zero e = refl
+tabulate-same f g i (suc n) e =
+    ap₂ _∷_ (e i (omega arith) (omega arith)) (tabulate-same f g (i + 1) n (λ k a b. e k (omega arith) (omega arith)))

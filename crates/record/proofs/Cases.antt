@@ -1,0 +1,58 @@
+-- The worked cases, computed. Assumes nothing.
+use mathlib.Core.Path.{refl}
+use Rattle.numbers.specs.Fixed.{leAt}
+use Rattle.numbers.specs.Bits.{bitAt, onesBelow}
+use Rattle.header.specs.Opening.{rowCount, overLimit, opened}
+use Rattle.layouts.specs.Columns.{tables, reaches, indexSize, heapSize, hasCustomAttribute, indexSizes, sumOf, rowSize}
+use Rattle.numbers.specs.Lists.{tabulate}
+use Rattle.tables.specs.Extents.{startOf, isTable, passes, stopFrom, stopKind, wholeRows, ifReached, walked, walkReply, extent, onlyEntire, keptRows}
+use Rattle.record.specs.Readings.{times}
+use Rattle.numbers.specs.Compressed.{packed, bits7, bits14, bits29, uint, unrotated, sint}
+use Rattle.record.specs.Dims.{sep, signed as signedText, dim, dims}
+use Rattle.buffers.specs.Texts.{digits, decimal}
+use Rattle.heaps.specs.Lookups.{before, stringAt, bytesAt, blobAt, string, blob}
+use Rattle.record.specs.Columns.{column}
+use Rattle.record.specs.Namespaces.{cut, fullName, nameOf, ownNamespace}
+use Rattle.record.specs.View.{otherRow, viewOf}
+use Rattle.record.specs.Types.{look, names, simple, typeFullName, counted, methodStart, arguments, shown, parameters, around, classType, generic, array, instance, fnPtr, modified, form, within, type}
+use Rattle.record.specs.Names.{classes, classFullName, refFullName, specBlob, typeNameIn, baseTypes}
+use Rattle.record.specs.Methods.{takes, leftOver, leftAfter, tries, signature, readBy, handle, pass, signatureOf, parameterName}
+use Rattle.record.specs.Record.{method, class, classRecord}
+use Rattle.buffers.specs.Replies.{nameReply, nameBuffer}
+use Rattle.record.specs.Cases.{same, sameℤ, is, nowhere, unsigned, signed, rendered, all, cases, TwelveCases, moreCases, MoreCases, Limits, Buffers, wholeTables, wholeStrings, WholeCase, threeTables, threeStrings, threeBlob, ThreeClasses, richTables, richStrings, richBlob, RichCase, cutStrings, cutTypes, interfacesEnding, CutTables, nesting, nestingStrings, NestedNames}
+
+pub twelve : TwelveCases
+unfolding cases all rendered signed unsigned nowhere is sameℤ same packed bits7 bits14 bits29 uint unrotated sint times sep digits decimal signedText dim dims look names simple typeFullName counted methodStart arguments shown parameters around classType generic array instance fnPtr modified form within type
+twelve = refl
+
+pub more : MoreCases
+unfolding moreCases all rendered signed unsigned nowhere is sameℤ same packed bits7 bits14 bits29 uint unrotated sint times sep digits decimal signedText dim dims look names simple typeFullName counted methodStart arguments shown parameters around classType generic array instance fnPtr modified form within type
+more = refl
+
+pub limits : Limits
+unfolding leAt bitAt onesBelow rowCount overLimit opened reaches indexSizes indexSize heapSize hasCustomAttribute tabulate
+limits = record { most = refl; over = refl; narrow = refl; wide = refl }
+
+pub buffers : Buffers
+unfolding nameReply nameBuffer
+buffers = record { fits = (refl, refl); lacks = (refl, refl); empty = (refl, refl) }
+
+pub whole : WholeCase
+unfolding wholeTables wholeStrings leAt bitAt onesBelow rowCount overLimit opened tables reaches indexSizes indexSize heapSize hasCustomAttribute sumOf rowSize startOf isTable passes stopFrom stopKind wholeRows ifReached walked tabulate before stringAt bytesAt blobAt string blob column walkReply extent onlyEntire keptRows cut fullName nameOf ownNamespace otherRow viewOf classes classFullName refFullName specBlob typeNameIn baseTypes takes leftOver leftAfter tries signature readBy handle pass signatureOf parameterName method class classRecord packed bits7 bits14 bits29 uint unrotated sint times sep digits decimal signedText dim dims look names simple typeFullName counted methodStart arguments shown parameters around classType generic array instance fnPtr modified form within type
+whole = record { stop = refl; classes = refl }
+
+pub three : ThreeClasses
+unfolding threeTables threeStrings threeBlob leAt bitAt onesBelow rowCount overLimit opened tables reaches indexSizes indexSize heapSize hasCustomAttribute sumOf rowSize startOf isTable passes stopFrom stopKind wholeRows ifReached walked tabulate before stringAt bytesAt blobAt string blob column walkReply extent onlyEntire keptRows cut fullName nameOf ownNamespace otherRow viewOf classes classFullName refFullName specBlob typeNameIn baseTypes takes leftOver leftAfter tries signature readBy handle pass signatureOf parameterName method class classRecord packed bits7 bits14 bits29 uint unrotated sint times sep digits decimal signedText dim dims look names simple typeFullName counted methodStart arguments shown parameters around classType generic array instance fnPtr modified form within type
+three = refl
+
+pub rich : RichCase
+unfolding richTables richStrings richBlob leAt bitAt onesBelow rowCount overLimit opened tables reaches indexSizes indexSize heapSize hasCustomAttribute sumOf rowSize startOf isTable passes stopFrom stopKind wholeRows ifReached walked tabulate before stringAt bytesAt blobAt string blob column walkReply extent onlyEntire keptRows cut fullName nameOf ownNamespace otherRow viewOf classes classFullName refFullName specBlob typeNameIn baseTypes takes leftOver leftAfter tries signature readBy handle pass signatureOf parameterName method class classRecord packed bits7 bits14 bits29 uint unrotated sint times sep digits decimal signedText dim dims look names simple typeFullName counted methodStart arguments shown parameters around classType generic array instance fnPtr modified form within type
+rich = refl
+
+pub cut-tables : CutTables
+unfolding cutStrings cutTypes interfacesEnding leAt bitAt onesBelow rowCount overLimit opened tables reaches indexSizes indexSize heapSize hasCustomAttribute sumOf rowSize startOf isTable passes stopFrom stopKind wholeRows ifReached walked tabulate before stringAt bytesAt blobAt string blob column walkReply extent onlyEntire keptRows cut fullName nameOf ownNamespace otherRow viewOf classes classFullName refFullName specBlob typeNameIn baseTypes takes leftOver leftAfter tries signature readBy handle pass signatureOf parameterName method class classRecord packed bits7 bits14 bits29 uint unrotated sint times sep digits decimal signedText dim dims look names simple typeFullName counted methodStart arguments shown parameters around classType generic array instance fnPtr modified form within type
+cut-tables = record { types = refl; entire = refl; cut = refl }
+
+pub nested-names : NestedNames
+unfolding nesting nestingStrings leAt bitAt onesBelow rowCount overLimit opened tables reaches indexSizes indexSize heapSize hasCustomAttribute sumOf rowSize startOf isTable passes stopFrom stopKind wholeRows ifReached walked tabulate before stringAt bytesAt blobAt string blob column walkReply extent onlyEntire keptRows cut fullName nameOf ownNamespace otherRow viewOf classes classFullName refFullName specBlob typeNameIn baseTypes takes leftOver leftAfter tries signature readBy handle pass signatureOf parameterName method class classRecord packed bits7 bits14 bits29 uint unrotated sint times sep digits decimal signedText dim dims look names simple typeFullName counted methodStart arguments shown parameters around classType generic array instance fnPtr modified form within type
+nested-names = record { outward = refl; inward = refl; cycle = refl; self = refl; idle = refl; gone = refl }

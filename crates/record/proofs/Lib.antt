@@ -1,0 +1,15 @@
+pub mod Fold
+pub mod Keyed
+pub mod Nested
+pub mod Parts
+pub mod Onward
+pub mod Unfold
+pub mod Extents
+pub mod Laws
+pub mod Lift
+pub mod Rearrangement
+pub mod Swap
+pub mod Demand
+pub mod Read
+pub mod Cases
+pub mod Example

@@ -1,0 +1,290 @@
+-- Document 01's worked cases as statements: the twelve marked P, the others that speak of definitions, the whole case, the example of
+-- methods that one class takes and another reads, and a stream in which nearly every rule has a say. proofs/Cases.antt proves them by computing.
+use mathlib.Core.Path.{_≡_}
+use mathlib.Core.Bool.{Bool, true, false, _&&_}
+use mathlib.Core.List.{List, [], _∷_, _++_, map}
+use mathlib.Core.Option.{Option, none, some}
+use Prim.Native.Nat.{ℕ, zero, suc}
+use lib.Dec.{eqb}
+use lib.IntN.{ℤ, pos, negsuc}
+use lib.ListN.{replicate}
+use Rattle.buffers.specs.declared.Refusal.the-variants.{TooManyRows}
+use Rattle.header.specs.declared.Opened.the-variants.{Refused, Ready}
+use Rattle.numbers.specs.Compressed.{uint, sint}
+use Rattle.buffers.specs.Texts.{Text, q}
+use Rattle.record.specs.Types.{Env, type}
+use Rattle.tables.specs.Extents.{sizesIn}
+use Rattle.record.specs.View.{View, view}
+use Rattle.header.specs.Opening.{base, opened}
+use Rattle.record.specs.Names.{levels}
+use Rattle.record.specs.Record.{Method, classRecord}
+use Rattle.buffers.specs.Replies.{refused, value, nameReply, nameBuffer}
+use Rattle.record.specs.Answers.{walkAnswer}
+
+-- Equal texts, equal numbers with a sign, and equal values that may be missing.
+unfoldable pub same : Text → Text → Bool
+same [] [] = true
+same [] (b ∷ t) = false
+same (a ∷ s) [] = false
+same (a ∷ s) (b ∷ t) = eqb a b && same s t
+
+unfoldable pub sameℤ : ℤ → ℤ → Bool
+sameℤ (pos a) (pos b) = eqb a b
+sameℤ (pos a) (negsuc b) = false
+sameℤ (negsuc a) (pos b) = false
+sameℤ (negsuc a) (negsuc b) = eqb a b
+
+unfoldable pub is : {A : Type 0} → (A → A → Bool) → Option A → Option A → Bool
+is eq none none = true
+is eq none (some b) = false
+is eq (some a) none = false
+is eq (some a) (some b) = eq a b
+
+-- No tables, no heaps and no generic names.
+unfoldable pub nowhere : Env
+nowhere = record { typeDefs = λ i. none; typeRefs = λ i. none; typeSpecs = λ i. none; generics = λ i. none; mgenerics = λ i. none }
+
+-- These bytes are this unsigned number, this signed number, this type (none: number 5).
+unfoldable pub unsigned : List ℕ → ℕ → Bool
+unsigned s n = is eqb (uint s 0 .got) (some n)
+
+unfoldable pub signed : List ℕ → ℤ → Bool
+signed s z = is sameℤ (sint s 0 .got) (some z)
+
+unfoldable pub rendered : List ℕ → Option Text → Bool
+rendered s t = is same (type nowhere levels s 0 .got) t
+
+unfoldable pub all : List Bool → Bool
+all [] = true
+all (b ∷ bs) = b && all bs
+
+-- A text n times.
+abbrev pub repeated : ℕ → Text → Text
+repeated zero t = []
+repeated (suc n) t = t ++ repeated n t
+
+unfoldable pub cases : List Bool
+cases =
+    unsigned (0x7F ∷ []) 127 ∷
+    unsigned (0x80 ∷ 0x80 ∷ []) 128 ∷
+    unsigned (0xDF ∷ 0xFF ∷ 0xFF ∷ 0xFF ∷ []) 536870911 ∷
+    signed (0x7B ∷ []) (negsuc 2) ∷
+    signed (0x80 ∷ 0x01 ∷ []) (negsuc 8191) ∷
+    signed (0xC0 ∷ 0x00 ∷ 0x00 ∷ 0x01 ∷ []) (negsuc 268435455) ∷
+    rendered (0x1D ∷ 0x0F ∷ 0x01 ∷ []) (some (q "Ptr<void>[]")) ∷
+    rendered (0x14 ∷ 0x08 ∷ 0x02 ∷ 0x00 ∷ 0x00 ∷ []) (some (q "int[,]")) ∷
+    rendered (0x14 ∷ 0x08 ∷ 0x01 ∷ 0x01 ∷ 0x05 ∷ 0x01 ∷ 0x06 ∷ []) (some (q "int[3...7]")) ∷
+    rendered (0x14 ∷ 0x08 ∷ 0x01 ∷ 0x00 ∷ 0x01 ∷ 0x7B ∷ []) (some (q "int[-3...]")) ∷
+    rendered (0x1B ∷ 0x00 ∷ 0x02 ∷ 0x01 ∷ 0x17 ∷ 0x08 ∷ []) (some (q "FnPtr<void(, int)>")) ∷
+    rendered (0x17 ∷ []) none ∷
+    []
+
+-- The twelve cases marked P.
+abbrev pub TwelveCases : Type 0
+TwelveCases = all cases ≡ true
+
+-- The other cases: a first byte of E0 is refused; sixteen 0F before 08 render and seventeen do not; forty 1D before 08 render.
+unfoldable pub moreCases : List Bool
+moreCases =
+    is eqb (uint (0xE0 ∷ 0 ∷ 0 ∷ 0 ∷ []) 0 .got) none ∷
+    rendered (replicate 16 0x0F ++ 0x08 ∷ []) (some (repeated 16 (q "Ptr<") ++ q "int" ++ replicate 16 0x3E)) ∷
+    rendered (replicate 17 0x0F ++ 0x08 ∷ []) none ∷
+    rendered (replicate 40 0x1D ++ 0x08 ∷ []) (some (q "int" ++ repeated 40 (q "[]"))) ∷
+    []
+
+abbrev pub MoreCases : Type 0
+MoreCases = all moreCases ≡ true
+
+-- A header with one table of this kind's byte of `valid`, with this count.
+abbrev pub oneTable : ℕ → ℕ → ℕ → List ℕ
+oneTable mask low high =
+    0 ∷ 0 ∷ 0 ∷ 0 ∷ 2 ∷ 0 ∷ 0 ∷ 1 ∷ mask ∷ 0 ∷ 0 ∷ 0 ∷ 0 ∷ 0 ∷ 0 ∷ 0 ∷ 0 ∷ 0 ∷ 0 ∷ 0 ∷ 0 ∷ 0 ∷ 0 ∷ 0 ∷ low ∷ high ∷ 0 ∷ 0 ∷ []
+
+-- 15,000 rows pass, 15,001 give 3. 2,047 Field rows keep HasCustomAttribute at 2 bytes, 2,048 make it 4.
+pub record Limits : Type 0 where
+  pub most : opened base (oneTable 0x04 0x98 0x3A) .answer ≡ Ready
+  pub over : opened base (oneTable 0x04 0x99 0x3A) .answer ≡ Refused TooManyRows
+  pub narrow : sizesIn base (opened base (oneTable 0x10 0xFF 0x07)) .«has_custom_attribute» ≡ 2
+  pub wide : sizesIn base (opened base (oneTable 0x10 0x00 0x08)) .«has_custom_attribute» ≡ 4
+
+-- A buffer of 3 for `int` succeeds; of 2 gives 6 and two zeros. An empty name fits a buffer of 0.
+pub record Buffers : Type 0 where
+  pub fits : (nameReply (value (q "int")) 3 ≡ value 3) × (nameBuffer (value (q "int")) 3 ≡ q "int")
+  pub lacks : (nameReply (value (q "int")) 2 ≡ refused 6) × (nameBuffer (value (q "int")) 2 ≡ 0 ∷ 0 ∷ [])
+  pub empty : (nameReply (value []) 0 ≡ value 0) × (nameBuffer (value []) 0 ≡ [])
+
+-- The whole case: 56 table bytes, 9 string bytes, no blob.
+unfoldable pub wholeTables : List ℕ
+wholeTables =
+    0 ∷ 0 ∷ 0 ∷ 0 ∷ 2 ∷ 0 ∷ 0 ∷ 1 ∷ 4 ∷ 0 ∷ 0 ∷ 0 ∷ 0 ∷ 0 ∷ 0 ∷ 0 ∷ 0 ∷ 0 ∷ 0 ∷ 0 ∷ 0 ∷ 0 ∷ 0 ∷ 0 ∷
+    2 ∷ 0 ∷ 0 ∷ 0 ∷
+    0 ∷ 0 ∷ 0 ∷ 0 ∷ 0 ∷ 0 ∷ 0 ∷ 0 ∷ 0 ∷ 0 ∷ 0 ∷ 0 ∷ 0 ∷ 0 ∷
+    1 ∷ 0 ∷ 0 ∷ 0 ∷ 5 ∷ 0 ∷ 3 ∷ 0 ∷ 0 ∷ 0 ∷ 1 ∷ 0 ∷ 0 ∷ 0 ∷
+    []
+
+unfoldable pub wholeStrings : List ℕ
+wholeStrings = 0x00 ∷ 0x41 ∷ 0x00 ∷ 0x4E ∷ 0x00 ∷ 0x4C ∷ 0x60 ∷ 0x31 ∷ 0x00 ∷ []
+
+abbrev pub wholeView : View
+wholeView = view base wholeTables wholeStrings []
+
+-- stop=64, one class, N.L, flags 1, and nothing else.
+pub record WholeCase : Type 0 where
+  pub stop : walkAnswer wholeView .stop ≡ value 64
+  pub classes : classRecord wholeView ≡ record { name = some (q "N.L"); flags = 1; generics = []; bases = []; methods = [] } ∷ []
+
+-- Three classes whose methods start at 0, 3 and 1 of five. Each class has one generic parameter, X, Y, Z, and each method returns the
+-- class's first generic parameter. Methods 1 and 2 go to the third class, but the first class's generics render them last.
+unfoldable pub threeTables : List ℕ
+threeTables =
+    0 ∷ 0 ∷ 0 ∷ 0 ∷ 2 ∷ 0 ∷ 0 ∷ 1 ∷ 0x44 ∷ 0 ∷ 0 ∷ 0 ∷ 0 ∷ 4 ∷ 0 ∷ 0 ∷ 0 ∷ 0 ∷ 0 ∷ 0 ∷ 0 ∷ 0 ∷ 0 ∷ 0 ∷
+    4 ∷ 0 ∷ 0 ∷ 0 ∷ 5 ∷ 0 ∷ 0 ∷ 0 ∷ 3 ∷ 0 ∷ 0 ∷ 0 ∷
+    0 ∷ 0 ∷ 0 ∷ 0 ∷ 0 ∷ 0 ∷ 0 ∷ 0 ∷ 0 ∷ 0 ∷ 0 ∷ 0 ∷ 0 ∷ 0 ∷
+    0 ∷ 0 ∷ 0 ∷ 0 ∷ 0 ∷ 0 ∷ 0 ∷ 0 ∷ 0 ∷ 0 ∷ 0 ∷ 0 ∷ 1 ∷ 0 ∷
+    0 ∷ 0 ∷ 0 ∷ 0 ∷ 0 ∷ 0 ∷ 0 ∷ 0 ∷ 0 ∷ 0 ∷ 0 ∷ 0 ∷ 4 ∷ 0 ∷
+    0 ∷ 0 ∷ 0 ∷ 0 ∷ 0 ∷ 0 ∷ 0 ∷ 0 ∷ 0 ∷ 0 ∷ 0 ∷ 0 ∷ 2 ∷ 0 ∷
+    0 ∷ 0 ∷ 0 ∷ 0 ∷ 0 ∷ 0 ∷ 0 ∷ 0 ∷ 0 ∷ 0 ∷ 1 ∷ 0 ∷ 0 ∷ 0 ∷
+    0 ∷ 0 ∷ 0 ∷ 0 ∷ 0 ∷ 0 ∷ 0 ∷ 0 ∷ 0 ∷ 0 ∷ 1 ∷ 0 ∷ 0 ∷ 0 ∷
+    0 ∷ 0 ∷ 0 ∷ 0 ∷ 0 ∷ 0 ∷ 0 ∷ 0 ∷ 0 ∷ 0 ∷ 1 ∷ 0 ∷ 0 ∷ 0 ∷
+    0 ∷ 0 ∷ 0 ∷ 0 ∷ 0 ∷ 0 ∷ 0 ∷ 0 ∷ 0 ∷ 0 ∷ 1 ∷ 0 ∷ 0 ∷ 0 ∷
+    0 ∷ 0 ∷ 0 ∷ 0 ∷ 0 ∷ 0 ∷ 0 ∷ 0 ∷ 0 ∷ 0 ∷ 1 ∷ 0 ∷ 0 ∷ 0 ∷
+    0 ∷ 0 ∷ 0 ∷ 0 ∷ 4 ∷ 0 ∷ 1 ∷ 0 ∷
+    0 ∷ 0 ∷ 0 ∷ 0 ∷ 6 ∷ 0 ∷ 3 ∷ 0 ∷
+    0 ∷ 0 ∷ 0 ∷ 0 ∷ 8 ∷ 0 ∷ 5 ∷ 0 ∷
+    []
+
+unfoldable pub threeStrings : List ℕ
+threeStrings = 0 ∷ 0x58 ∷ 0 ∷ 0x59 ∷ 0 ∷ 0x5A ∷ 0 ∷ []
+
+unfoldable pub threeBlob : List ℕ
+threeBlob = 0 ∷ 4 ∷ 0x00 ∷ 0x00 ∷ 0x13 ∷ 0x00 ∷ []
+
+abbrev pub ThreeClasses : Type 0
+ThreeClasses =
+    map (λ k. map (λ m. m .returns) (k .methods)) (classRecord (view base threeTables threeStrings threeBlob))
+    ≡ (some (q "X") ∷ []) ∷ [] ∷ (some (q "X") ∷ some (q "X") ∷ some (q "Z") ∷ some (q "Z") ∷ []) ∷ []
+
+-- A stream in which nearly every rule has a say: names cut and not, missing and empty; nesting in the order of the rows; generics of classes and of
+-- methods; base types of all three kinds, one without a name; methods with and without a signature; parameters of every sort.
+unfoldable pub richTables : List ℕ
+richTables =
+    0 ∷ 0 ∷ 0 ∷ 0 ∷ 2 ∷ 0 ∷ 0 ∷ 1 ∷ 0x46 ∷ 3 ∷ 0 ∷ 8 ∷ 0 ∷ 6 ∷ 0 ∷ 0 ∷ 0 ∷ 0 ∷ 0 ∷ 0 ∷ 0 ∷ 0 ∷ 0 ∷ 0 ∷
+    1 ∷ 0 ∷ 0 ∷ 0 ∷ 6 ∷ 0 ∷ 0 ∷ 0 ∷ 4 ∷ 0 ∷ 0 ∷ 0 ∷ 2 ∷ 0 ∷ 0 ∷ 0 ∷ 3 ∷ 0 ∷ 0 ∷ 0 ∷ 1 ∷ 0 ∷ 0 ∷ 0 ∷ 2 ∷ 0 ∷ 0 ∷ 0 ∷ 5 ∷ 0 ∷ 0 ∷ 0 ∷
+    -- TypeRef: Object`2 in System
+    0 ∷ 0 ∷ 1 ∷ 0 ∷ 0x0A ∷ 0 ∷
+    -- TypeDef: no class; N.Outer extends TypeRef 1, first method 0; Mid, first method 2; In extends TypeSpec 1, no methods; a class
+    -- without a name; E with an empty namespace
+    0 ∷ 0 ∷ 0 ∷ 0 ∷ 0 ∷ 0 ∷ 0 ∷ 0 ∷ 0 ∷ 0 ∷ 0 ∷ 0 ∷ 0 ∷ 0 ∷
+    1 ∷ 0 ∷ 0 ∷ 0 ∷ 0x11 ∷ 0 ∷ 0x17 ∷ 0 ∷ 5 ∷ 0 ∷ 0 ∷ 0 ∷ 1 ∷ 0 ∷
+    0 ∷ 0 ∷ 0 ∷ 0 ∷ 0x19 ∷ 0 ∷ 0 ∷ 0 ∷ 0 ∷ 0 ∷ 0 ∷ 0 ∷ 3 ∷ 0 ∷
+    0 ∷ 0 ∷ 0 ∷ 0 ∷ 0x1D ∷ 0 ∷ 0 ∷ 0 ∷ 6 ∷ 0 ∷ 0 ∷ 0 ∷ 0 ∷ 0 ∷
+    0 ∷ 0 ∷ 0 ∷ 0 ∷ 0 ∷ 0 ∷ 0x17 ∷ 0 ∷ 0 ∷ 0 ∷ 0 ∷ 0 ∷ 0 ∷ 0 ∷
+    0 ∷ 0 ∷ 0 ∷ 0 ∷ 0x20 ∷ 0 ∷ 9 ∷ 0 ∷ 0 ∷ 0 ∷ 0 ∷ 0 ∷ 0 ∷ 0 ∷
+    -- MethodDef: f, .ctor, one without a name, g with no signature
+    0 ∷ 0 ∷ 0 ∷ 0 ∷ 0 ∷ 0 ∷ 0x16 ∷ 0 ∷ 0x22 ∷ 0 ∷ 1 ∷ 0 ∷ 1 ∷ 0 ∷
+    0 ∷ 0 ∷ 0 ∷ 0 ∷ 0 ∷ 0 ∷ 6 ∷ 0 ∷ 0x24 ∷ 0 ∷ 0x0A ∷ 0 ∷ 0 ∷ 0 ∷
+    0 ∷ 0 ∷ 0 ∷ 0 ∷ 0 ∷ 0 ∷ 0 ∷ 0 ∷ 0 ∷ 0 ∷ 0x0F ∷ 0 ∷ 2 ∷ 0 ∷
+    0 ∷ 0 ∷ 0 ∷ 0 ∷ 0 ∷ 0 ∷ 0 ∷ 0 ∷ 0x2A ∷ 0 ∷ 0xC8 ∷ 0 ∷ 1 ∷ 0 ∷
+    -- Param: x, one without a name
+    0 ∷ 0 ∷ 1 ∷ 0 ∷ 0x2C ∷ 0 ∷
+    0 ∷ 0 ∷ 2 ∷ 0 ∷ 0 ∷ 0 ∷
+    -- InterfaceImpl of N.Outer: TypeDef row 4, nothing, TypeRef row 1
+    2 ∷ 0 ∷ 0x10 ∷ 0 ∷
+    2 ∷ 0 ∷ 7 ∷ 0 ∷
+    2 ∷ 0 ∷ 5 ∷ 0 ∷
+    -- TypeSpec: Object of the first generic
+    0x17 ∷ 0 ∷
+    -- NestedClass: In in Mid, then Mid in N.Outer
+    4 ∷ 0 ∷ 3 ∷ 0 ∷
+    3 ∷ 0 ∷ 2 ∷ 0 ∷
+    -- GenericParam: T of Outer, U of In, M of method f, one of TypeDef row 1, one of Outer without a name
+    0 ∷ 0 ∷ 0 ∷ 0 ∷ 4 ∷ 0 ∷ 0x2E ∷ 0 ∷
+    0 ∷ 0 ∷ 0 ∷ 0 ∷ 8 ∷ 0 ∷ 0x30 ∷ 0 ∷
+    0 ∷ 0 ∷ 0 ∷ 0 ∷ 3 ∷ 0 ∷ 0x32 ∷ 0 ∷
+    0 ∷ 0 ∷ 0 ∷ 0 ∷ 2 ∷ 0 ∷ 0x2E ∷ 0 ∷
+    0 ∷ 0 ∷ 0 ∷ 0 ∷ 4 ∷ 0 ∷ 0 ∷ 0 ∷
+    []
+
+-- Object`2 at 1, System at 10, Outer at 0x11, N at 0x17, Mid at 0x19, In at 0x1D, E at 0x20, f at 0x22, .ctor at 0x24, g at 0x2A, x at 0x2C, T at 0x2E,
+-- U at 0x30, M at 0x32
+unfoldable pub richStrings : List ℕ
+richStrings = 0 ∷ q "Object`2" ++ 0 ∷ q "System" ++ 0 ∷ q "Outer" ++ 0 ∷ q "N" ++ 0 ∷ q "Mid" ++ 0 ∷ q "In" ++ 0 ∷ q "E" ++ 0 ∷ q "f" ++ 0 ∷ q ".ctor" ++ 0 ∷ q "g" ++ 0 ∷ q "x" ++ 0 ∷ q "T" ++ 0 ∷ q "U" ++ 0 ∷ q "M" ++ 0 ∷ []
+
+unfoldable pub richBlob : List ℕ
+richBlob = 0 ∷ 8 ∷ 0x10 ∷ 1 ∷ 2 ∷ 0x13 ∷ 0 ∷ 0x1E ∷ 0 ∷ 0x17 ∷ 4 ∷ 0 ∷ 1 ∷ 1 ∷ 8 ∷ 7 ∷ 0 ∷ 2 ∷ 8 ∷ 0x12 ∷ 5 ∷ 0x12 ∷ 8 ∷ 6 ∷ 0x15 ∷ 0x12 ∷ 5 ∷ 1 ∷ 0x13 ∷ 0 ∷ []
+
+abbrev pub outerMethods : List Method
+outerMethods =
+    record { name = some (q "f"); flags = 0x16; generics = some (q "M") ∷ []; returns = some (q "T"); parameters = record { type = some (q "M"); name = some (q "x") } ∷ record { type = none; name = some [] } ∷ [] }
+    ∷ record { name = some (q ".ctor"); flags = 6; generics = []; returns = some (q "void"); parameters = record { type = some (q "int"); name = none } ∷ [] }
+    ∷ []
+
+abbrev pub midMethods : List Method
+midMethods =
+    record { name = none; flags = 0; generics = []; returns = some (q "int"); parameters = record { type = some (q "System.Object"); name = some [] } ∷ record { type = some (q "N.Outer"); name = some (q "P_1") } ∷ [] }
+    ∷ record { name = some (q "g"); flags = 0; generics = []; returns = none; parameters = [] }
+    ∷ []
+
+abbrev pub RichCase : Type 0
+RichCase =
+    classRecord (view base richTables richStrings richBlob)
+    ≡ record { name = some (q "N.Outer"); flags = 1; generics = some (q "T") ∷ none ∷ []; bases = q "System.Object" ∷ q "Mid.In" ∷ q "System.Object" ∷ []; methods = outerMethods }
+    ∷ record { name = some (q "N.Outer.Mid"); flags = 0; generics = []; bases = []; methods = midMethods }
+    ∷ record { name = some (q "Mid.In"); flags = 0; generics = some (q "U") ∷ []; bases = q "System.Object<U>" ∷ []; methods = [] }
+    ∷ record { name = none; flags = 0; generics = []; bases = []; methods = [] }
+    ∷ record { name = some (q ".E"); flags = 0; generics = []; bases = []; methods = [] }
+    ∷ []
+
+-- Cut tables. A TypeDef row with this name and nothing else; a header of these two bytes of Valid.
+abbrev pub typeRow : ℕ → List ℕ
+typeRow name = 0 ∷ 0 ∷ 0 ∷ 0 ∷ name ∷ 0 ∷ 0 ∷ 0 ∷ 0 ∷ 0 ∷ 0 ∷ 0 ∷ 0 ∷ 0 ∷ []
+
+abbrev pub twoBytes : ℕ → ℕ → List ℕ
+twoBytes low high = 0 ∷ 0 ∷ 0 ∷ 0 ∷ 2 ∷ 0 ∷ 0 ∷ 1 ∷ low ∷ high ∷ 0 ∷ 0 ∷ 0 ∷ 0 ∷ 0 ∷ 0 ∷ 0 ∷ 0 ∷ 0 ∷ 0 ∷ 0 ∷ 0 ∷ 0 ∷ 0 ∷ []
+
+unfoldable pub cutStrings : List ℕ
+cutStrings = 0 ∷ q "A" ++ 0 ∷ q "B" ++ 0 ∷ []
+
+-- Three TypeDef rows, the third of which lacks its last byte.
+unfoldable pub cutTypes : List ℕ
+cutTypes = twoBytes 4 0 ++ 3 ∷ 0 ∷ 0 ∷ 0 ∷ typeRow 0 ++ typeRow 1 ++ 0 ∷ 0 ∷ 0 ∷ 0 ∷ 3 ∷ 0 ∷ 0 ∷ 0 ∷ 0 ∷ 0 ∷ 0 ∷ 0 ∷ 0 ∷ []
+
+-- Classes A and B, and two InterfaceImpl rows that say that A has B, whose end is given.
+unfoldable pub interfacesEnding : List ℕ → List ℕ
+interfacesEnding end = twoBytes 4 2 ++ 3 ∷ 0 ∷ 0 ∷ 0 ∷ 2 ∷ 0 ∷ 0 ∷ 0 ∷ typeRow 0 ++ typeRow 1 ++ typeRow 3 ++ 2 ∷ 0 ∷ 12 ∷ 0 ∷ 2 ∷ 0 ∷ 12 ∷ end
+
+-- The base types of each class.
+abbrev pub basesOf : List ℕ → List (List Text)
+basesOf t = map (λ k. k .bases) (classRecord (view base t cutStrings []))
+
+-- TypeDef keeps the whole rows before the cut; InterfaceImpl is kept only entire.
+pub record CutTables : Type 0 where
+  pub types : map (λ k. k .name) (classRecord (view base cutTypes cutStrings [])) ≡ some (q "A") ∷ []
+  pub entire : basesOf (interfacesEnding (0 ∷ [])) ≡ (q "B" ∷ q "B" ∷ []) ∷ [] ∷ []
+  pub cut : basesOf (interfacesEnding []) ≡ [] ∷ [] ∷ []
+
+-- Nested classes. Classes A, B and C, and these two NestedClass rows, each the nested and the enclosing TypeDef row.
+unfoldable pub nesting : ℕ → ℕ → ℕ → ℕ → List ℕ
+nesting n₁ e₁ n₂ e₂ =
+    0 ∷ 0 ∷ 0 ∷ 0 ∷ 2 ∷ 0 ∷ 0 ∷ 1 ∷ 4 ∷ 0 ∷ 0 ∷ 0 ∷ 0 ∷ 2 ∷ 0 ∷ 0 ∷ 0 ∷ 0 ∷ 0 ∷ 0 ∷ 0 ∷ 0 ∷ 0 ∷ 0 ∷
+    4 ∷ 0 ∷ 0 ∷ 0 ∷ 2 ∷ 0 ∷ 0 ∷ 0 ∷
+    typeRow 0 ++ typeRow 1 ++ typeRow 3 ++ typeRow 5 ++ n₁ ∷ 0 ∷ e₁ ∷ 0 ∷ n₂ ∷ 0 ∷ e₂ ∷ 0 ∷ []
+
+unfoldable pub nestingStrings : List ℕ
+nestingStrings = 0 ∷ q "A" ++ 0 ∷ q "B" ++ 0 ∷ q "C" ++ 0 ∷ []
+
+abbrev pub namesOf : List ℕ → List (Option Text)
+namesOf t = map (λ k. k .name) (classRecord (view base t nestingStrings []))
+
+-- Rows act in order, and a namespace is the full name that the enclosing class has at that moment.
+pub record NestedNames : Type 0 where
+  -- B in A, then C in B; and the other way round
+  pub outward : namesOf (nesting 3 2 4 3) ≡ some (q "A") ∷ some (q "A.B") ∷ some (q "A.B.C") ∷ []
+  pub inward : namesOf (nesting 4 3 3 2) ≡ some (q "A") ∷ some (q "A.B") ∷ some (q "B.C") ∷ []
+  -- A in B, then B in A: a cycle
+  pub cycle : namesOf (nesting 2 3 3 2) ≡ some (q "B.A") ∷ some (q "B.A.B") ∷ some (q "C") ∷ []
+  -- A in itself, twice
+  pub self : namesOf (nesting 2 2 2 2) ≡ some (q "A.A.A") ∷ some (q "B") ∷ some (q "C") ∷ []
+  -- rows with an index 0 or 1 do nothing; an enclosing class that is not there leaves no namespace
+  pub idle : namesOf (nesting 3 1 0 2) ≡ some (q "A") ∷ some (q "B") ∷ some (q "C") ∷ []
+  pub gone : namesOf (nesting 3 2 3 9) ≡ some (q "A") ∷ some (q "B") ∷ some (q "C") ∷ []

@@ -1,0 +1,77 @@
+-- The columns of the tables that the record reads (ECMA-335 II.22), by the index sizes and a row's bytes.
+use mathlib.Core.List.{List}
+use Prim.Native.Nat.{ℕ}
+use lib.ListN.{take, getD}
+use Rattle.numbers.specs.Fixed.{leAt}
+use Rattle.layouts.specs.Kinds.{typeRef, typeDef, methodDef, param, interfaceImpl, typeSpec, nestedClass, genericParam}
+use Rattle.layouts.specs.Columns.{Two, columnsOf, widthIn, sumOf}
+use Rattle.layouts.specs.declared.IndexSizes.{IndexSizes}
+
+-- Column j, from 0, of a row of table k: the little-endian number that stands after the columns before it (`read_index`, `read_u16`, `read_u32`).
+unfoldable pub column : ℕ → ℕ → IndexSizes → List ℕ → ℕ
+column k j w r = leAt (widthIn w (getD (columnsOf k) j Two)) r (sumOf (widthIn w) (take j (columnsOf k)))
+
+-- TypeRef, II.22.38: ResolutionScope, TypeName, TypeNamespace.
+abbrev pub refName : IndexSizes → List ℕ → ℕ
+refName = column typeRef 1
+
+abbrev pub refNamespace : IndexSizes → List ℕ → ℕ
+refNamespace = column typeRef 2
+
+-- TypeDef, II.22.37: Flags, TypeName, TypeNamespace, Extends, FieldList, MethodList.
+abbrev pub typeFlags : IndexSizes → List ℕ → ℕ
+typeFlags = column typeDef 0
+
+abbrev pub typeName : IndexSizes → List ℕ → ℕ
+typeName = column typeDef 1
+
+abbrev pub typeNamespace : IndexSizes → List ℕ → ℕ
+typeNamespace = column typeDef 2
+
+abbrev pub extends : IndexSizes → List ℕ → ℕ
+extends = column typeDef 3
+
+abbrev pub methodList : IndexSizes → List ℕ → ℕ
+methodList = column typeDef 5
+
+-- MethodDef, II.22.26: RVA, ImplFlags, Flags, Name, Signature, ParamList.
+abbrev pub methodFlags : IndexSizes → List ℕ → ℕ
+methodFlags = column methodDef 2
+
+abbrev pub methodName : IndexSizes → List ℕ → ℕ
+methodName = column methodDef 3
+
+abbrev pub methodSignature : IndexSizes → List ℕ → ℕ
+methodSignature = column methodDef 4
+
+abbrev pub paramList : IndexSizes → List ℕ → ℕ
+paramList = column methodDef 5
+
+-- Param, II.22.33: Flags, Sequence, Name.
+abbrev pub paramName : IndexSizes → List ℕ → ℕ
+paramName = column param 2
+
+-- InterfaceImpl, II.22.23: Class, Interface.
+abbrev pub implClass : IndexSizes → List ℕ → ℕ
+implClass = column interfaceImpl 0
+
+abbrev pub implInterface : IndexSizes → List ℕ → ℕ
+implInterface = column interfaceImpl 1
+
+-- TypeSpec, II.22.39: Signature.
+abbrev pub specSignature : IndexSizes → List ℕ → ℕ
+specSignature = column typeSpec 0
+
+-- NestedClass, II.22.32: NestedClass, EnclosingClass.
+abbrev pub nested : IndexSizes → List ℕ → ℕ
+nested = column nestedClass 0
+
+abbrev pub enclosing : IndexSizes → List ℕ → ℕ
+enclosing = column nestedClass 1
+
+-- GenericParam, II.22.20: Number, Flags, Owner, Name.
+abbrev pub owner : IndexSizes → List ℕ → ℕ
+owner = column genericParam 2
+
+abbrev pub genericName : IndexSizes → List ℕ → ℕ
+genericName = column genericParam 3

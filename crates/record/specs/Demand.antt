@@ -1,0 +1,50 @@
+-- What is claimed of rearranged streams (demand 3). proofs/Demand.antt proves both halves.
+use mathlib.Core.Path.{_≡_}
+use mathlib.Core.Logic.{_≢_}
+use mathlib.Core.List.{List}
+use Prim.Native.Nat.{ℕ, _*_, _<_}
+use lib.ListN.{length}
+use Rattle.buffers.specs.declared.Reply.{Reply}
+use Rattle.heaps.specs.Lookups.{string}
+use Rattle.layouts.specs.Kinds.{genericParam}
+use Rattle.record.specs.Columns.{owner, genericName}
+use Rattle.tables.specs.Extents.{sizesIn}
+use Rattle.header.specs.declared.Options.{Options}
+use Rattle.record.specs.View.{View, view, sideRow}
+use Rattle.header.specs.Opening.{opened}
+use Rattle.record.specs.Names.{classIndex}
+use Rattle.record.specs.Record.{class, classRecord}
+use Rattle.buffers.specs.Replies.{Named}
+use Rattle.record.specs.Answers.{walkAnswer, NumberCall, numberAnswer, Numbered, NameCall, nameAnswer}
+use Rattle.record.specs.Rearrangement.{Rearranged, Swapped}
+
+-- Two views give the same class record, the same walk and the same answer to every call, asked alike: with the same arguments and
+-- with buffers of equal length, however filled before. A refusal is an answer.
+pub record Survives (v w : View) : Type 1 where
+  pub record-same : classRecord w ≡ classRecord v
+  pub walk-same : walkAnswer w ≡ walkAnswer v
+  pub numbers-same :
+      (call : NumberCall) (r r′ : Reply) → Numbered (numberAnswer call v) r → Numbered (numberAnswer call w) r′ → r′ ≡ r
+  pub names-same :
+      (call : NameCall) (before before′ after after′ : List ℕ) (r r′ : Reply) → length before′ ≡ length before
+      → Named (nameAnswer call v) before r after → Named (nameAnswer call w) before′ r′ after′
+      → (r′ ≡ r) × (after′ ≡ after)
+  pub all-else-same : {A : Type 0} (answer : View → A) → answer w ≡ answer v
+
+-- First half: an allowed rearrangement changes nothing that is answered.
+abbrev pub RearrangementSurvives : Type 1
+RearrangementSurvives =
+    (o : Options) (t u strings blob : List ℕ) → Rearranged o t u
+    → (view o u strings blob ≡ view o t strings blob) × Survives (view o t strings blob) (view o u strings blob)
+
+-- Second half: two GenericParam rows of a listed class that have different names (or one missing), exchanged, change the values of that class.
+abbrev pub SwapShows : Type 0
+SwapShows =
+    (o : Options) (t u strings blob : List ℕ) (i j c : ℕ) → Swapped o t u i j
+    → c < length (classRecord (view o t strings blob))
+    → owner (sizesIn o (opened o t)) (sideRow o (opened o t) t genericParam i) ≡ 2 * classIndex c
+    → owner (sizesIn o (opened o t)) (sideRow o (opened o t) t genericParam j) ≡ 2 * classIndex c
+    → string strings (genericName (sizesIn o (opened o t)) (sideRow o (opened o t) t genericParam i))
+    ≢ string strings (genericName (sizesIn o (opened o t)) (sideRow o (opened o t) t genericParam j))
+    → (class (view o u strings blob) c ≢ class (view o t strings blob) c)
+    × (classRecord (view o u strings blob) ≢ classRecord (view o t strings blob))

@@ -1,0 +1,101 @@
+-- Names of types, and the generic names and base types of a class, by the view.
+use mathlib.Core.Bool.{cond}
+use mathlib.Core.List.{List, [], _∷_, map}
+use mathlib.Core.Option.{Option, none}
+use Prim.Native.Nat.{ℕ, _+_, _*_, _-_}
+use lib.Dec.{eqb}
+use lib.ListN.{getElem?}
+use Rattle.layouts.specs.declared.IndexSizes.{IndexSizes}
+use Rattle.record.specs.Missing.{over, andThen, orDefault, present}
+use Rattle.buffers.specs.Texts.{Text}
+use Rattle.heaps.specs.Lookups.{string, blob}
+use Rattle.layouts.specs.Kinds.{typeRef, typeDef, methodDef, typeSpec}
+use Rattle.record.specs.Columns.{refName, refNamespace, extends, specSignature}
+use Rattle.tables.specs.Extents.{sizesIn, keptRows}
+use Rattle.record.specs.Namespaces.{cut, fullName, nameOf}
+use Rattle.record.specs.View.{View}
+use Rattle.record.specs.Types.{Env, typeFullName, type}
+
+-- The index sizes, and how many rows of a table are kept.
+abbrev pub sizesOf : View → IndexSizes
+sizesOf v = sizesIn (v .options) (v .header)
+
+abbrev pub rowsIn : View → ℕ → ℕ
+rowsIn v k = keptRows (v .options) (v .header) (v .size) k
+
+-- The row that an index into a table means: indices count from 1, and 0 stands for none (`get_record_in_table`).
+abbrev pub indexed : View → ℕ → ℕ → Option (List ℕ)
+indexed v k r = cond (eqb r 0) none (v .row k (r - 1))
+
+-- A column of a row: 0 where the row is missing.
+abbrev pub numberIn : View → (IndexSizes → List ℕ → ℕ) → Option (List ℕ) → ℕ
+numberIn v col r = orDefault 0 (over (col (sizesOf v)) r)
+
+-- The string that a column of a row finds: missing where the row is.
+abbrev pub stringIn : View → (IndexSizes → List ℕ → ℕ) → Option (List ℕ) → Option Text
+stringIn v col r = andThen r (λ bytes. string (v .strings) (col (sizesOf v) bytes))
+
+-- How many classes there are: TypeDef row 1 is none (`parse_type_defs`).
+unfoldable pub classes : View → ℕ
+classes v = rowsIn v typeDef - 1
+
+-- Class c, counted from 0, is TypeDef row c + 2, counted from 1: place c + 1 of the table.
+abbrev pub classIndex : ℕ → ℕ
+classIndex c = c + 2
+
+abbrev pub classRow : View → ℕ → Option (List ℕ)
+classRow v c = v .row typeDef (c + 1)
+
+-- Method m, counted from 0, is MethodDef row m + 1, counted from 1: place m of the table.
+abbrev pub methodIndex : ℕ → ℕ
+methodIndex m = m + 1
+
+abbrev pub methodRow : View → ℕ → Option (List ℕ)
+methodRow v m = v .row methodDef m
+
+-- The full name of the class at TypeDef row r, once all NestedClass rows have acted (`get_fullname`): rows 0 and 1 have none.
+unfoldable pub classFullName : View → ℕ → Option Text
+classFullName v r = fullName (v .namespace r) (nameOf (sizesOf v) (v .strings) (v .row) r)
+
+-- The full name of TypeRef row r (II.22.38, `get_type_fullname`); its ResolutionScope is not looked at.
+unfoldable pub refFullName : View → ℕ → Option Text
+refFullName v r = let row = indexed v typeRef r in fullName (stringIn v refNamespace row) (over cut (stringIn v refName row))
+
+-- The signature of TypeSpec row r (II.22.39).
+unfoldable pub specBlob : View → ℕ → Option (List ℕ)
+specBlob v r = andThen (indexed v typeSpec r) (λ bytes. blob (v .blob) (specSignature (sizesOf v) bytes))
+
+-- The generic names of class c and of method m (II.22.20, `parse_generic_params`): an owner's low bit is 0 for a TypeDef row, 1 for a
+-- MethodDef row, and the rest is the row's number from 1. So owners 0, 1 and TypeDef row 1 belong to nobody.
+abbrev pub classGenerics : View → ℕ → List (Option Text)
+classGenerics v c = v .generics (2 * classIndex c)
+
+abbrev pub methodGenerics : View → ℕ → List (Option Text)
+methodGenerics v m = v .generics (2 * methodIndex m + 1)
+
+-- The generic name at a place: missing past the end, and where it is missing itself.
+abbrev pub nameAt : List (Option Text) → ℕ → Option Text
+nameAt l i = andThen (getElem? l i) (λ name. name)
+
+-- What signatures are read with, by the generic names of a class and of a method.
+abbrev pub env : View → List (Option Text) → List (Option Text) → Env
+env v ofClass ofMethod =
+    record {
+      typeDefs = classFullName v;
+      typeRefs = refFullName v;
+      typeSpecs = specBlob v;
+      generics = nameAt ofClass;
+      mgenerics = nameAt ofMethod;
+    }
+
+-- The levels that a signature has: the level starts at 0, and one above 16 refuses.
+abbrev pub levels : ℕ
+levels = 17
+
+-- The name behind a TypeDefOrRef index that stands in a row of class c (`get_type_fullname` as `finalize` calls it).
+unfoldable pub typeNameIn : View → ℕ → ℕ → Option Text
+typeNameIn v c i = let e = env v (classGenerics v c) [] in typeFullName e (type e levels) i .got
+
+-- The base types of class c (`finalize`): the extended type first, then the interfaces in order; those without a name are dropped.
+unfoldable pub baseTypes : View → ℕ → List Text
+baseTypes v c = present (map (typeNameIn v c) (numberIn v extends (classRow v c) ∷ v .interfaces (classIndex c)))

@@ -1,0 +1,62 @@
+-- The class record: for each class in order the values from its `class=` line on, uncut, missing told from empty. A function of the view.
+use mathlib.Core.List.{List, [], _∷_}
+use mathlib.Core.Option.{Option}
+use Prim.Native.Nat.{ℕ, _+_, _-_}
+use Rattle.numbers.specs.Lists.{tabulate}
+use Rattle.record.specs.Missing.{over, orDefault}
+use Rattle.buffers.specs.Texts.{Text}
+use Rattle.record.specs.Columns.{typeFlags, methodFlags, methodName}
+use Rattle.record.specs.View.{View}
+use Rattle.record.specs.Names.{stringIn, classes, classIndex, classRow, methodRow, classFullName, classGenerics, methodGenerics, baseTypes, numberIn}
+use Rattle.record.specs.Methods.{leftAfter, signatureOf, parameterName}
+
+pub record Parameter : Type 0 where
+  pub type : Option Text
+  pub name : Option Text
+
+pub record Method : Type 0 where
+  pub name : Option Text
+  pub flags : ℕ
+  pub generics : List (Option Text)
+  pub returns : Option Text
+  pub parameters : List Parameter
+
+pub record Class : Type 0 where
+  pub name : Option Text
+  pub flags : ℕ
+  pub generics : List (Option Text)
+  pub bases : List Text
+  pub methods : List Method
+
+-- The parameters from place i on, by their types.
+abbrev pub parametersFrom : View → ℕ → ℕ → List (Option Text) → List Parameter
+parametersFrom v m i [] = []
+parametersFrom v m i (t ∷ ts) = record { type = t; name = parameterName v m i } ∷ parametersFrom v m (i + 1) ts
+
+-- Method m (II.22.26, `parse_method_defs`). With no signature read it has no return type and no parameters.
+unfoldable pub method : View → ℕ → Method
+method v m =
+    let row = methodRow v m in
+    let signature = signatureOf v m in
+    record {
+      name = stringIn v methodName row;
+      flags = numberIn v methodFlags row;
+      generics = methodGenerics v m;
+      returns = over (λ s. s .returns) signature;
+      parameters = parametersFrom v m 0 (orDefault [] (over (λ s. s .parameters) signature));
+    }
+
+-- Class c (II.22.37, `parse_type_defs`). Its methods are those left before its turn that it does not leave.
+unfoldable pub class : View → ℕ → Class
+class v c =
+    record {
+      name = classFullName v (classIndex c);
+      flags = numberIn v typeFlags (classRow v c);
+      generics = classGenerics v c;
+      bases = baseTypes v c;
+      methods = tabulate (method v) (leftAfter v c) (leftAfter v (c + 1) - leftAfter v c);
+    }
+
+-- The class record.
+unfoldable pub classRecord : View → List Class
+classRecord v = tabulate (class v) 0 (classes v)

@@ -1,0 +1,77 @@
+-- The view: all that the record and the answers may read of the three streams. The side tables (GenericParam, InterfaceImpl, NestedClass)
+-- stand in it only by what they say of an owner, of a class, and of the namespaces.
+use mathlib.Core.Bool.{Bool, cond, _||_}
+use mathlib.Core.List.{List}
+use mathlib.Core.Option.{Option, none, some}
+use Prim.Native.Nat.{ℕ}
+use lib.Dec.{eqb, ltb}
+use lib.ListN.{length}
+use Rattle.header.specs.Opening.{opened}
+use Rattle.header.specs.declared.Options.{Options}
+use Rattle.header.specs.declared.Header.{Header}
+use Rattle.buffers.specs.Texts.{Text}
+use Rattle.heaps.specs.Lookups.{string}
+use Rattle.layouts.specs.Kinds.{interfaceImpl, nestedClass, genericParam}
+use Rattle.record.specs.Columns.{owner, genericName, implClass, implInterface}
+use Rattle.tables.specs.Extents.{Extent, sizesIn, extent, keptRows}
+use Rattle.record.specs.Rows.{rowBytes, runs, ofKey}
+use Rattle.record.specs.Namespaces.{ownNamespace, nest}
+
+-- The side tables.
+abbrev pub isSide : ℕ → Bool
+isSide k = eqb k interfaceImpl || (eqb k nestedClass || eqb k genericParam)
+
+pub record View : Type 0 where
+  -- how the streams are opened
+  pub options : Options
+  -- what opening finds: a refusal, or heap sizes, row counts and the place of the first table
+  pub header : Header
+  -- the length of the tables stream
+  pub size : ℕ
+  -- the kept rows of the other tables, by kind and place from 0
+  pub row : ℕ → ℕ → Option (List ℕ)
+  -- the names of an owner's generic parameters, by the Owner column as stored
+  pub generics : ℕ → List (Option Text)
+  -- the Interface columns of a class, by the Class column as stored
+  pub interfaces : ℕ → List ℕ
+  -- the namespace of a TypeDef row, from 1, once all NestedClass rows have acted
+  pub namespace : ℕ → Option Text
+  pub strings : List ℕ
+  pub blob : List ℕ
+
+-- By the options, what opening found, h, and the tables stream t
+module _ (o : Options) (h : Header) (t : List ℕ) where
+  -- Where the table of kind k lies, the size of its rows and how many are whole.
+  abbrev pub place : ℕ → Extent
+  place k = extent o h (length t) k
+
+  -- A row of a table that is no side table.
+  unfoldable pub otherRow : ℕ → ℕ → Option (List ℕ)
+  otherRow k i = cond (isSide k) none (cond (ltb i (keptRows o h (length t) k)) (some (rowBytes (place k) t i)) none)
+
+  -- A row of a side table, and how many are kept.
+  abbrev pub sideRow : ℕ → ℕ → List ℕ
+  sideRow k = rowBytes (place k) t
+
+  abbrev pub sideRows : ℕ → ℕ
+  sideRows k = keptRows o h (length t) k
+
+  unfoldable pub viewOf : List ℕ → List ℕ → View
+  viewOf strings blob =
+      record {
+        options = o;
+        header = h;
+        size = length t;
+        row = otherRow;
+        generics = ofKey (owner (sizesIn o h)) (λ r. string strings (genericName (sizesIn o h) r)) (sideRow genericParam) (sideRows genericParam);
+        interfaces = ofKey (implClass (sizesIn o h)) (implInterface (sizesIn o h)) (sideRow interfaceImpl) (sideRows interfaceImpl);
+        namespace =
+            runs (nest (sizesIn o h) strings otherRow) (sideRow nestedClass) (sideRows nestedClass)
+            (ownNamespace (sizesIn o h) strings otherRow);
+        strings = strings;
+        blob = blob;
+      }
+
+-- The view of a tables stream, a strings heap and a blob heap.
+abbrev pub view : Options → List ℕ → List ℕ → List ℕ → View
+view o t strings blob = viewOf o (opened o t) t strings blob
