@@ -105,5 +105,6 @@ pub fn walk_with(tables: &[u8], options: Options) -> Extents
 pub fn walk(tables: &[u8]) -> Extents
     ensures { λ r. ⌜ walkSays r ≡ walkOf base (now (tables .entry)) ⌝ }
 {
-    walk_with(tables, header::base_options())
+    let options = header::base_options();
+    walk_with(tables, options)
 }

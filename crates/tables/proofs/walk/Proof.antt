@@ -9,15 +9,15 @@ use Rattle.tables.proofs.walk.Lts as lts
 use Rattle.header.proofs.base_options.Reads as base-options-reads
 use Rattle.tables.proofs.walk_with.Reads as walk-with-reads
 
--- src/lib.rt:106:23
+-- src/lib.rt:108:19
 base-options-requires : tie.Need-base-options-requires
 base-options-requires c κs = search needs
 
--- src/lib.rt:106:5
+-- src/lib.rt:109:5
 walk-with-requires : tie.Need-walk-with-requires
 walk-with-requires c κs = search needs
 
--- src/lib.rt:103:1
+-- src/lib.rt:105:1
 returns : tie.Need-returns
 returns c = c .walk-with .ensures ∙ ap (λ (o : Options). walkOf o (c .before .before .before .args .tables .now)) (c .before .base-options .ensures)
 
