@@ -78,7 +78,7 @@ pub fn write_extents(input: &[u8], out: &mut [u8]) -> usize
     ensures { λ r. ⌜ Wrote (now (out .entry)) 0 (extentsText (now (input .entry))) (now (out .exit)) r ⌝ }
 {
     match bundle::open_bundle(input) {
-        Bundle::Streams(p, _, _) => push_walk(out, tables::walk(numbers::cut(input, p.at, p.len))),
+        Bundle::Streams(p, _, _) => push_walk(out, walks::walk(numbers::cut(input, p.at, p.len))),
         Bundle::Malformed => push_refused(out, Refusal::BadInput),
     }
 }

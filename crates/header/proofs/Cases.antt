@@ -2,14 +2,17 @@
 use mathlib.Core.Path.{_≡_, refl, ap, _∙_}
 use mathlib.Core.Bool.{Bool, true, false, cond}
 use mathlib.Core.List.{List}
-use Prim.Native.Nat.{ℕ, _+_, _*_, _≤_, _<_, min, zero-le}
+use Prim.Native.Nat.{ℕ, zero, suc, _+_, _*_, _≤_, _<_, min, zero-le}
+use native.Mathlib.Nat.{not-suc-le-zero}
+use native.Mathlib.Decide.{decLt}
 use native.Mathlib.Omega.{arith}
 use borrow.Author.Tests.{lt-ltb, le-ltb, ltb-false}
 use lib.Dec.{ltb}
-use lib.ListN.{length}
+use lib.ListN.{length, getD, getD-replicate}
 use Rattle.numbers.specs.Bits.{bitAt, onesBelow}
+use Rattle.numbers.proofs.Lists.{table-at}
 use Rattle.buffers.specs.declared.Refusal.the-variants.{ShortHeader, ShortCounts, TooManyRows}
-use Rattle.header.specs.Opening.{heapSizes, valid, rowCounts, countsEnd, tablesStart, overLimit, refusedHeader, opened}
+use Rattle.header.specs.Opening.{heapSizes, valid, rowCount, rowCounts, countsEnd, tablesStart, overLimit, refusedHeader, opened}
 use Rattle.header.specs.declared.Options.{Options}
 use Rattle.header.specs.declared.Header.{Header}
 use Rattle.header.specs.declared.Opened.the-variants.{Ready}
@@ -71,3 +74,28 @@ opening-first o s false false false c e = omega (arith, ltb-false (length s) (co
 pub ready-first : (o : Options) (s : List ℕ) → opened o s .answer ≡ Ready → countsEnd s ≤ opened o s .first
 unfolding opened
 ready-first o s e = opening-first o s (ltb (length s) 24) (ltb (length s) (countsEnd s)) (overLimit (o .limit) s 64) refl e
+
+-- No count of an opened stream is over the limit.
+few-below : (limit : ℕ) (s : List ℕ) (n k : ℕ) → overLimit limit s n ≡ false → k < n → rowCount s k ≤ limit
+unfolding overLimit
+few-below limit s zero k e h = absurd (not-suc-le-zero h)
+few-below limit s (suc n) k e h = go (ltb limit (rowCount s n)) refl e (decLt k n) (λ c l. few-below limit s n k c l)
+  where
+    go : (b : Bool) → ltb limit (rowCount s n) ≡ b → cond b true (overLimit limit s n) ≡ false → Dec (k < n)
+        → (overLimit limit s n ≡ false → k < n → rowCount s k ≤ limit) → rowCount s k ≤ limit
+    go true q c d before = let z : _≡_ {A = ℕ} 0 1 = cc in absurd (omega arith)
+    go false q c (yes l) before = before c l
+    go false q c (no l) before =
+        let same : k ≡ n = omega arith in
+        rw same (ltb-false limit (rowCount s n) q)
+
+few-by : (o : Options) (s : List ℕ) (k : ℕ) (short cut over : Bool) → overLimit (o .limit) s 64 ≡ over → k < 64
+    → getD (cond short (refusedHeader ShortHeader) (cond cut (refusedHeader ShortCounts) (cond over (refusedHeader TooManyRows) (ready s))) .counts) k 0 ≤ o .limit
+few-by o s k true cut over e h = rw (getD-replicate {A = ℕ} 64 k 0 0 h) zero-le
+few-by o s k false true over e h = rw (getD-replicate {A = ℕ} 64 k 0 0 h) zero-le
+few-by o s k false false true e h = rw (getD-replicate {A = ℕ} 64 k 0 0 h) zero-le
+few-by o s k false false false e h = rw (table-at (rowCount s) 0 64 k h) (few-below (o .limit) s 64 k e h)
+
+pub few-counted : (o : Options) (s : List ℕ) (k : ℕ) → k < 64 → getD (opened o s .counts) k 0 ≤ o .limit
+unfolding opened
+few-counted o s k h = few-by o s k (ltb (length s) 24) (ltb (length s) (countsEnd s)) (overLimit (o .limit) s 64) refl h

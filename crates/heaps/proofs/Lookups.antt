@@ -11,8 +11,10 @@ use lib.ListN.{length, getD, drop, length-drop, drop-of-length-le}
 use lib.Seq.{drop-cons}
 use Rattle.numbers.specs.Reading.{Res, someAt, noneAt}
 use Rattle.numbers.specs.Compressed.{uint}
+use Rattle.numbers.specs.Parts.{part}
 use Rattle.numbers.proofs.Pick.{pick-lt, pick-le, pick-eq}
-use Rattle.heaps.specs.Lookups.{before, stringAt, bytesAt, blobAt, Inside}
+use Rattle.heaps.specs.Lookups.{before, stringAt, bytesAt, blobAt, string, Inside}
+use Rattle.heaps.specs.declared.Absence.{Absence}
 use Rattle.heaps.specs.declared.Absence.the-variants.{NullIndex, PastEnd, NoZero, NoBlob}
 use Rattle.heaps.specs.declared.Part.{Part}
 use Rattle.heaps.specs.declared.Part.the-variants.{Found, Absent}
@@ -34,7 +36,7 @@ module _ (x : ℕ) (s : List ℕ) (i : ℕ) {e : ℕ} (inv : i + before x (drop 
         let further : before x (drop i s) ≡ 1 + before x (drop (i + 1) s) = rw (drop-cons s i 0 h, ne-eqb _ _ n, add-one i) (omega arith) in
         omega arith
 
-before-most : (x : ℕ) (s : List ℕ) → before x s ≤ length s
+pub before-most : (x : ℕ) (s : List ℕ) → before x s ≤ length s
 unfolding before
 before-most x [] = zero-le
 before-most x (b ∷ s) = pick-eq (λ (n : ℕ). n ≤ suc (length s)) b x (λ _. zero-le) (λ _. omega (arith, before-most x s))
@@ -100,3 +102,12 @@ string-within s i e = subst⁻¹ (Inside s) e (string-inside s i)
 
 pub blob-within : (s : List ℕ) (i : ℕ) {start n : ℕ} → Found start n ≡ blobAt s i → start + n ≤ length s
 blob-within s i e = subst⁻¹ (Inside s) e (blob-inside s i)
+
+-- The text of a string that was looked up.
+pub string-some : (s : List ℕ) (i : ℕ) {start n : ℕ} → Found start n ≡ stringAt s i → string s i ≡ some (part s start n)
+unfolding string
+string-some s i e = rw (← e)
+
+pub string-none : (s : List ℕ) (i : ℕ) {why : Absence} → Absent why ≡ stringAt s i → string s i ≡ none
+unfolding string
+string-none s i e = rw (← e)

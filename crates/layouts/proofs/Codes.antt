@@ -6,17 +6,18 @@ use Prim.Native.Nat.{ℕ, zero, suc, _+_, _*_, _-_, _≤_, _<_}
 use native.Mathlib.Nat.{not-suc-le-zero, le-of-suc-le-suc}
 use native.Mathlib.Numerals.{add-one}
 use native.Mathlib.Omega.{arith}
-use lib.Dec.{T, lit<, eqb, eqb→eq}
-use lib.ListN.{length, getD, drop, replicate, drop-of-length-le}
+use lib.Dec.{T}
+use lib.ListN.{length, getD, take, drop, replicate, drop-of-length-le}
 use lib.Seq.{drop-cons}
 use Rattle.layouts.specs.declared.IndexSizes.{IndexSizes}
 use Rattle.layouts.specs.Columns.{Column, Two, Four, String, Guid, Blob, TypeDef, Field, MethodDef, Param, Event, Property}
 use Rattle.layouts.specs.Columns.{ModuleRef, AssemblyRef, GenericParam, TypeDefOrRef, HasConstant, HasCustomAttribute}
 use Rattle.layouts.specs.Columns.{HasFieldMarshall, HasDeclSecurity, MemberRefParent, HasSemantics, MethodDefOrRef}
 use Rattle.layouts.specs.Columns.{MemberForwarded, Implementation, CustomAttributeType, ResolutionScope, TypeOrMethodDef}
-use Rattle.layouts.specs.Columns.{tables, widthIn, sumOf, rowSize}
-use Rattle.layouts.specs.Codes.{byCode, allBelow}
-use Rattle.layouts.proofs.Reaches.{and-left, and-right, below-at}
+use Rattle.layouts.specs.Columns.{columnsOf, widthIn, sumOf}
+use Rattle.layouts.specs.Codes.{byCode, coded, allBelow}
+use Rattle.layouts.specs.Read.{Of}
+use Rattle.layouts.proofs.Reaches.{and-left, and-right, holds}
 
 -- What LAYOUTS has of a column: its bytes, or the code of its index.
 pub data Part : Type 0 where
@@ -61,9 +62,9 @@ abbrev plusCode : Part → List ℕ → List ℕ
 plusCode (bytes n) xs = xs
 plusCode (index x) xs = x ∷ xs
 
-abbrev bytesIn : List Column → ℕ
-bytesIn [] = 0
-bytesIn (c ∷ cs) = plusBytes (part c) (bytesIn cs)
+abbrev plainIn : List Column → ℕ
+plainIn [] = 0
+plainIn (c ∷ cs) = plusBytes (part c) (plainIn cs)
 
 abbrev codesIn : List Column → List ℕ
 codesIn [] = []
@@ -71,12 +72,7 @@ codesIn (c ∷ cs) = plusCode (part c) (codesIn cs)
 
 -- A row of LAYOUTS, from the columns of the table: the bytes that are no index, then the codes, with zeros to make five.
 abbrev layoutOf : List Column → List ℕ
-layoutOf cs = bytesIn cs ∷ (codesIn cs ++ replicate (5 - length (codesIn cs)) 0)
-
--- What the columns take whose codes are listed: ws are the sizes by code.
-unfoldable pub coded : List ℕ → List ℕ → ℕ
-coded ws [] = 0
-coded ws (x ∷ xs) = getD ws x 0 + coded ws xs
+layoutOf cs = plainIn cs ∷ (codesIn cs ++ replicate (5 - length (codesIn cs)) 0)
 
 coded-append : (ws xs ys : List ℕ) → coded ws (xs ++ ys) ≡ coded ws xs + coded ws ys
 unfolding coded
@@ -127,75 +123,68 @@ size-is w CustomAttributeType = refl
 size-is w ResolutionScope = refl
 size-is w TypeOrMethodDef = refl
 
-parts-sum : (w : IndexSizes) (cs : List Column) → bytesIn cs + coded (byCode w) (codesIn cs) ≡ sumOf (widthIn w) cs
+parts-sum : (w : IndexSizes) (cs : List Column) → plainIn cs + coded (byCode w) (codesIn cs) ≡ sumOf (widthIn w) cs
 unfolding sumOf coded
 parts-sum w [] = refl
-parts-sum w (c ∷ cs) = omega (arith, one-more (byCode w) (part c) (bytesIn cs) (codesIn cs), size-is w c, parts-sum w cs)
+parts-sum w (c ∷ cs) = omega (arith, one-more (byCode w) (part c) (plainIn cs) (codesIn cs), size-is w c, parts-sum w cs)
 
 layout-sum : (w : IndexSizes) (cs : List Column) → getD (layoutOf cs) 0 0 + coded (byCode w) (drop 1 (layoutOf cs)) ≡ sumOf (widthIn w) cs
 layout-sum w cs =
     let n = 5 - length (codesIn cs) in
     omega (arith, parts-sum w cs, coded-append (byCode w) (codesIn cs) (replicate n 0), coded-none w n)
 
--- What the code relies on, of a row of LAYOUTS: it has six numbers, each may be a code, and what it says is the size of the row.
-pub record Laid (k : ℕ) (row : List ℕ) : Type 0 where
-  pub six : length row ≡ 6
-  pub code : (j : ℕ) → getD row j 0 < 26
-  pub sum : (w : IndexSizes) → getD row 0 0 + coded (byCode w) (drop 1 row) ≡ rowSize (widthIn w) k
+-- A member of a list that is made of another, member by member.
+pub made-at : {A B : Type 0} (g : A → B) (a : A) (xs : List A) (k : ℕ) (d : B) → k < length xs → getD (map g xs) k d ≡ g (getD xs k a)
+made-at g a [] k d h = absurd (not-suc-le-zero h)
+made-at g a (x ∷ xs) zero d h = refl
+made-at g a (x ∷ xs) (suc k) d h = made-at g a xs k d (le-of-suc-le-suc h)
 
--- The first two of these are one test over all rows.
+-- The code has a list of rows, each made of the columns that f gives for a member of xs.
+module _ {A : Type 0} (f : A → List Column) (a : A) where
+  abbrev pub rowsOf : List A → List (List ℕ)
+  rowsOf xs = map (λ x. layoutOf (f x)) xs
+
+  -- A row sums up to the bytes of those columns.
+  pub sum-at : (xs : List A) (w : IndexSizes) (k : ℕ) (d : List ℕ) → k < length xs
+      → getD (getD (rowsOf xs) k d) 0 0 + coded (byCode w) (drop 1 (getD (rowsOf xs) k d)) ≡ sumOf (widthIn w) (f (getD xs k a))
+  sum-at xs w k d h = rw (made-at (λ x. layoutOf (f x)) a xs k d h) (layout-sum w (f (getD xs k a)))
+
+-- The columns before one that is read, and that one.
+abbrev pub before : Of → List Column
+before c = take (c .place) (columnsOf (c .kind))
+
+abbrev pub itself : Of → List Column
+itself c = getD (columnsOf (c .kind)) (c .place) Two ∷ []
+
+-- Every number of such a row may be a code: one test over all rows.
 abbrev sound : List (List ℕ) → Bool
 sound [] = true
-sound (row ∷ rows) = eqb (length row) 6 && allBelow 26 row && sound rows
+sound (row ∷ rows) = allBelow 26 row && sound rows
 
--- The row of a table, where the rows are those of the tables ts.
-row-at : (ts : List (List Column)) (k : ℕ) (d : List ℕ) → k < length ts → getD (map layoutOf ts) k d ≡ layoutOf (getD ts k [])
-row-at [] k d h = absurd (not-suc-le-zero h)
-row-at (t ∷ ts) zero d h = refl
-row-at (t ∷ ts) (suc k) d h = row-at ts k d (le-of-suc-le-suc h)
+pub codes-at : (rows : List (List ℕ)) → T (sound rows) → (k : ℕ) (d : List ℕ) → k < length rows → allBelow 26 (getD rows k d) ≡ true
+codes-at [] t k d h = absurd (not-suc-le-zero h)
+codes-at (row ∷ rows) t zero d h = holds (allBelow 26 row) (and-left (allBelow 26 row) (sound rows) t)
+codes-at (row ∷ rows) t (suc k) d h = codes-at rows (and-right (allBelow 26 row) (sound rows) t) k d (le-of-suc-le-suc h)
 
-sound-at : {G : List ℕ → Type 0}
-    → ((row : List ℕ) → length row ≡ 6 → ((j : ℕ) → getD row j 0 < 26) → G row)
-    → (rows : List (List ℕ)) → T (sound rows) → (k : ℕ) (d : List ℕ) → k < length rows → G (getD rows k d)
-sound-at f [] t k d h = absurd (not-suc-le-zero h)
-sound-at f (row ∷ rows) t zero d h =
-    let both : T (eqb (length row) 6 && allBelow 26 row) = and-left (eqb (length row) 6 && allBelow 26 row) (sound rows) t in
-    f row (eqb→eq (length row) 6 (and-left (eqb (length row) 6) (allBelow 26 row) both))
-    (below-at 26 (lit< tt) row (and-right (eqb (length row) 6) (allBelow 26 row) both))
-sound-at f (row ∷ rows) t (suc k) d h =
-    sound-at f rows (and-right (eqb (length row) 6 && allBelow 26 row) (sound rows) t) k d (le-of-suc-le-suc h)
-
--- The rows of all tables, as the code has them.
-pub laid : (k : ℕ) (d : List ℕ) → k < 45 → Laid k (getD (map layoutOf tables) k d)
-unfolding tables rowSize
-laid k d h =
-    record {
-      six = sound-at (λ row e f. e) (map layoutOf tables) tt k d h;
-      code = sound-at (λ row e f. f) (map layoutOf tables) tt k d h;
-      sum = λ w. rw (row-at tables k d h) (layout-sum w (getD tables k []));
-    }
-
--- The loop of `row_size`: what it has summed up, and what the codes that are left will add.
-pub record Summing (k : ℕ) (ws row : List ℕ) (size j : ℕ) : Type 0 where
-  pub laid : Laid k row
+-- The loop of `sum_row`: what it has summed up, and what the codes that are left will add.
+pub record Summing (ws row : List ℕ) (size j : ℕ) : Type 0 where
   pub low : j ≤ 6
   pub most : size ≤ 255 * j
   pub left : size + coded ws (drop j row) ≡ getD row 0 0 + coded ws (drop 1 row)
 
-pub begin : (k : ℕ) (ws row : List ℕ) (x : ℕ) → Laid k row → x ≡ getD row 0 0 → x < 256 → Summing k ws row x 1
-begin k ws row x l e h = record { laid = l; low = omega arith; most = omega arith; left = ap (λ (n : ℕ). n + coded ws (drop 1 row)) e }
+pub begin : (ws row : List ℕ) (x : ℕ) → x ≡ getD row 0 0 → x < 256 → Summing ws row x 1
+begin ws row x e h = record { low = omega arith; most = omega arith; left = ap (λ (n : ℕ). n + coded ws (drop 1 row)) e }
 
-module _ {k : ℕ} {ws row : List ℕ} {size j : ℕ} (s : Summing k ws row size j) where
-  pub next : (x : ℕ) → j < 6 → x ≡ getD ws (getD row j 0) 0 → x < 256 → Summing k ws row (size + x) (j + 1)
+module _ {ws row : List ℕ} {size j : ℕ} (six : length row ≡ 6) (s : Summing ws row size j) where
+  pub next : (x : ℕ) → j < 6 → x ≡ getD ws (getD row j 0) 0 → x < 256 → Summing ws row (size + x) (j + 1)
   unfolding coded
   next x h e b =
-      let d : coded ws (drop j row) ≡ getD ws (getD row j 0) 0 + coded ws (drop (j + 1) row) = rw (drop-cons row j 0 (omega (arith, s .laid .six)), add-one) in
-      record { laid = s .laid; low = omega arith; most = omega arith; left = omega arith }
+      let d : coded ws (drop j row) ≡ getD ws (getD row j 0) 0 + coded ws (drop (j + 1) row) = rw (drop-cons row j 0 (omega arith), add-one) in
+      record { low = omega arith; most = omega arith; left = omega (arith, s .left) }
 
-  pub done : (w : IndexSizes) → 6 ≤ j → ws ≡ byCode w → size ≡ rowSize (widthIn w) k
+  pub done : (w : IndexSizes) → 6 ≤ j → ws ≡ byCode w → size ≡ getD row 0 0 + coded (byCode w) (drop 1 row)
   unfolding coded
   done w h e =
-      let f : length row ≤ j = omega (arith, s .laid .six) in
+      let f : length row ≤ j = omega arith in
       let d : coded ws (drop j row) ≡ 0 = rw (drop-of-length-le row f) in
-      let t : getD row 0 0 + coded ws (drop 1 row) ≡ rowSize (widthIn w) k = rw e (s .laid .sum w) in
-      omega arith
+      rw (← e) (omega (arith, s .left))

@@ -43,6 +43,10 @@ told : (b : Bool) → b ≡ true → T b
 told true e = tt
 told false e = let z : _≡_ {A = ℕ} 0 1 = cc in absurd (omega arith)
 
+pub holds : (b : Bool) → T b → b ≡ true
+holds true t = refl
+holds false t = absurd t
+
 -- The tables before position i do not reach n, as the loop of `coded_index_size` leaves it.
 module _ (cs : List ℕ) (n : ℕ) (ts : List ℕ) (i : ℕ) (e : reaches cs n ts ≡ reaches cs n (drop i ts)) where
   pub found : i < length ts → n ≤ getD cs (getD ts i 0) 0 → reaches cs n ts ≡ true
@@ -57,13 +61,16 @@ module _ (cs : List ℕ) (n : ℕ) (ts : List ℕ) (i : ℕ) (e : reaches cs n t
   unfolding reaches
   none h = e ∙ rw (drop-of-length-le ts h)
 
-pub below-at : (n : ℕ) → 0 < n → (ts : List ℕ) → T (allBelow n ts) → (i : ℕ) → getD ts i 0 < n
+below-at : (n : ℕ) → 0 < n → (ts : List ℕ) → T (allBelow n ts) → (i : ℕ) → getD ts i 0 < n
 below-at n h [] t i = h
 below-at n h (x ∷ ts) t zero = ltb→lt x n (and-left (ltb x n) (allBelow n ts) t)
 below-at n h (x ∷ ts) t (suc i) = below-at n h ts (and-right (ltb x n) (allBelow n ts) t) i
 
 pub below : (ts : List ℕ) → allBelow 64 ts ≡ true → (i : ℕ) → getD ts i 0 < 64
 below ts t i = below-at 64 (lit< tt) ts (told (allBelow 64 ts) t) i
+
+pub code-below : (row : List ℕ) → allBelow 26 row ≡ true → (j : ℕ) → getD row j 0 < 26
+code-below row t j = below-at 26 (lit< tt) row (told (allBelow 26 row) t) j
 
 -- Where every count is below n, no list reaches n.
 pub small : (cs : List ℕ) (n : ℕ) → ((t : ℕ) → getD cs t 0 < n) → (ts : List ℕ) → reaches cs n ts ≡ false

@@ -1,4 +1,4 @@
-// The numbers of the tables that index sizes depend on, named as in the Rust's `table_type`.
+// The numbers of the tables that index sizes depend on and of those whose columns are read, named as in the Rust's `table_type`.
 
 // II.22.30
 pub const MODULE: u8 = 0x00;
@@ -38,6 +38,8 @@ pub const FILE: u8 = 0x26;
 pub const EXPORTED_TYPE: u8 = 0x27;
 // II.22.24
 pub const MANIFEST_RESOURCE: u8 = 0x28;
+// II.22.32
+pub const NESTED_CLASS: u8 = 0x29;
 // II.22.20
 pub const GENERIC_PARAM: u8 = 0x2A;
 // II.22.29

@@ -1,15 +1,19 @@
-// How many bytes an index into a heap or a table takes (ECMA-335 II.24.2.6), and with that a row of each table (II.22). What is listed
-// here and in rows.rt is the Rust's; specs/ has it from the standard, and the proofs hold the one against the other.
+// How many bytes an index into a heap or a table takes (ECMA-335 II.24.2.6), and with that a row of each table (II.22), and the columns
+// that are read. What is listed here, in rows.rt and in columns.rt is the Rust's; specs/ has it from the standard, and the proofs hold
+// the one against the other.
+mod columns;
 mod kinds;
 mod rows;
 
 ghost use mathlib.Core.Path.{_≡_};
 ghost use mathlib.Core.Bool.{true, cond};
 ghost use mathlib.Core.List.{[], _∷_};
-ghost use Prim.Native.Nat.{_<_};
+ghost use Prim.Native.Nat.{_+_, _<_};
 ghost use lib.Dec.{eqb};
+ghost use lib.ListN.{getD, drop};
 ghost use Rattle.layouts.specs.Columns.{reaches, indexSize, hasCustomAttribute, indexSizes, widthIn, rowSize};
-ghost use Rattle.layouts.specs.Codes.{byCode, allBelow};
+ghost use Rattle.layouts.specs.Codes.{byCode, coded, allBelow};
+ghost use Rattle.layouts.specs.Read.{readColumn, offsetIn, bytesIn};
 
 // The bytes that an index takes, 2 or 4.
 pub struct IndexSizes {
@@ -228,16 +232,50 @@ fn wide(x: u8) -> u32
     x as u32
 }
 
-// The bytes of a row of a known table, 0x00 to 0x2C.
-pub fn row_size(sizes: IndexSizes, kind: usize) -> u32
-    requires { ⌜ kind < 45 ⌝ }
-    ensures { λ r. ⌜ r ≡ rowSize (widthIn sizes) kind ⌝ }
+// What a row of rows.rt or columns.rt sums up to: the bytes that are no index, and the sizes of five indices.
+fn sum_row(sizes: IndexSizes, row: [u8; 6]) -> u32
+    requires { ⌜ allBelow 26 row ≡ true ⌝ }
+    ensures { λ r. ⌜ r ≡ getD row 0 0 + coded (byCode sizes) (drop 1 row) ⌝ }
 {
     let sizes = by_code(sizes);
-    let row = rows::LAYOUTS[kind];
     let mut size = wide(row[0]);
     for j in 1..6 {
         size += wide(sizes[row[j] as usize]);
     }
     size
+}
+
+// The bytes of a row of a known table, 0x00 to 0x2C.
+pub fn row_size(sizes: IndexSizes, kind: usize) -> u32
+    requires { ⌜ kind < 45 ⌝ }
+    ensures { λ r. ⌜ r ≡ rowSize (widthIn sizes) kind ⌝ }
+{
+    let row = rows::LAYOUTS[kind];
+    sum_row(sizes, row)
+}
+
+// The table of a column that is read, by the column's number.
+pub fn column_kind(c: usize) -> usize
+    requires { ⌜ c < 19 ⌝ }
+    ensures { λ r. ⌜ r ≡ readColumn c .kind ⌝ }
+{
+    columns::KINDS[c]
+}
+
+// The bytes of a row before a column that is read.
+pub fn column_offset(sizes: IndexSizes, c: usize) -> u32
+    requires { ⌜ c < 19 ⌝ }
+    ensures { λ r. ⌜ r ≡ offsetIn sizes (readColumn c) ⌝ }
+{
+    let row = columns::BEFORE[c];
+    sum_row(sizes, row)
+}
+
+// The bytes of a column that is read.
+pub fn column_width(sizes: IndexSizes, c: usize) -> u32
+    requires { ⌜ c < 19 ⌝ }
+    ensures { λ r. ⌜ r ≡ bytesIn sizes (readColumn c) ⌝ }
+{
+    let row = columns::WIDTHS[c];
+    sum_row(sizes, row)
 }

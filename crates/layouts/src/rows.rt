@@ -2,57 +2,57 @@
 
 // The codes of indices: into a heap, into a table, and by tags into several tables (II.24.2.6).
 // where a row has no more
-const NONE: u8 = 0;
+pub const NONE: u8 = 0;
 // II.24.2.3
-const STRING: u8 = 1;
+pub const STRING: u8 = 1;
 // II.24.2.5
-const GUID: u8 = 2;
+pub const GUID: u8 = 2;
 // II.24.2.4
-const BLOB: u8 = 3;
+pub const BLOB: u8 = 3;
 // II.22.37
-const TYPE_DEF: u8 = 4;
+pub const TYPE_DEF: u8 = 4;
 // II.22.15
-const FIELD: u8 = 5;
+pub const FIELD: u8 = 5;
 // II.22.26
-const METHOD_DEF: u8 = 6;
+pub const METHOD_DEF: u8 = 6;
 // II.22.33
-const PARAM: u8 = 7;
+pub const PARAM: u8 = 7;
 // II.22.13
-const EVENT: u8 = 8;
+pub const EVENT: u8 = 8;
 // II.22.34
-const PROPERTY: u8 = 9;
+pub const PROPERTY: u8 = 9;
 // II.22.31
-const MODULE_REF: u8 = 10;
+pub const MODULE_REF: u8 = 10;
 // II.22.5
-const ASSEMBLY_REF: u8 = 11;
+pub const ASSEMBLY_REF: u8 = 11;
 // II.22.20
-const GENERIC_PARAM: u8 = 12;
+pub const GENERIC_PARAM: u8 = 12;
 // 2 tag bits
-const TYPE_DEF_OR_REF: u8 = 13;
+pub const TYPE_DEF_OR_REF: u8 = 13;
 // 2 tag bits
-const HAS_CONSTANT: u8 = 14;
+pub const HAS_CONSTANT: u8 = 14;
 // 5 tag bits
-const HAS_CUSTOM_ATTRIBUTE: u8 = 15;
+pub const HAS_CUSTOM_ATTRIBUTE: u8 = 15;
 // 1 tag bit
-const HAS_FIELD_MARSHALL: u8 = 16;
+pub const HAS_FIELD_MARSHALL: u8 = 16;
 // 2 tag bits
-const HAS_DECL_SECURITY: u8 = 17;
+pub const HAS_DECL_SECURITY: u8 = 17;
 // 3 tag bits
-const MEMBER_REF_PARENT: u8 = 18;
+pub const MEMBER_REF_PARENT: u8 = 18;
 // 1 tag bit
-const HAS_SEMANTICS: u8 = 19;
+pub const HAS_SEMANTICS: u8 = 19;
 // 1 tag bit
-const METHOD_DEF_OR_REF: u8 = 20;
+pub const METHOD_DEF_OR_REF: u8 = 20;
 // 1 tag bit
-const MEMBER_FORWARDED: u8 = 21;
+pub const MEMBER_FORWARDED: u8 = 21;
 // 2 tag bits
-const IMPLEMENTATION: u8 = 22;
+pub const IMPLEMENTATION: u8 = 22;
 // 3 tag bits
-const CUSTOM_ATTRIBUTE_TYPE: u8 = 23;
+pub const CUSTOM_ATTRIBUTE_TYPE: u8 = 23;
 // 2 tag bits
-const RESOLUTION_SCOPE: u8 = 24;
+pub const RESOLUTION_SCOPE: u8 = 24;
 // 1 tag bit
-const TYPE_OR_METHOD_DEF: u8 = 25;
+pub const TYPE_OR_METHOD_DEF: u8 = 25;
 
 // By table: the bytes of a row that are no index, then the indices.
 pub const LAYOUTS: [[u8; 6]; 45] = [

@@ -2,7 +2,7 @@
 use mathlib.Core.Path.{_≡_, refl, sym, ap, _∙_}
 use mathlib.Core.Bool.{Bool, true, false, cond}
 use mathlib.Core.List.{List}
-use Prim.Native.Nat.{ℕ, zero, suc, _+_, _-_, _*_, _/_, _≤_, _<_, min}
+use Prim.Native.Nat.{ℕ, zero, suc, _+_, _-_, _*_, _/_, _≤_, _<_, min, zero-le}
 use native.Mathlib.Nat.{le-refl, mul-le-mul-right, zero-mul, add-zero, add-suc, div-mul-le-self}
 use native.Mathlib.Decide.{decLt}
 use native.Mathlib.Omega.{arith}
@@ -16,6 +16,7 @@ use Rattle.header.specs.declared.Header.{Header}
 use Rattle.header.specs.declared.Opened.{Opened}
 use Rattle.header.specs.declared.Opened.the-variants.{Refused, Ready}
 use Rattle.header.proofs.Cases.{first-within, ready-first}
+use Rattle.layouts.proofs.Facts.{size-pos}
 use Rattle.tables.specs.Extents.{startOf, isTable, stopKind, wholeRows, ifReached, walked, rowSizeIn, answered, walkReply, Extent, extent}
 use Rattle.tables.specs.Apart.{Inside, tableOf, TablesApart}
 
@@ -122,6 +123,66 @@ found-by o h n Ready k p e i = record { ready = e; lies-at = lies (rowSizeIn o h
 pub found : (o : Options) (h : Header) (n k p : ℕ) → Inside (extent o h n k) p → Found o h n k p
 unfolding extent walkReply
 found o h n k p i = found-by o h n (h .answer) k p refl i
+
+-- A table with rows in it: its row size is that of its columns, and its rows lie within the stream.
+pub record Stands (o : Options) (h : Header) (n k : ℕ) : Type 0 where
+  pub sized : extent o h n k .size ≡ rowSizeIn o h k
+  pub within : extent o h n k .start + extent o h n k .rows * extent o h n k .size ≤ n
+
+module _ (size : ℕ → ℕ) (counts : List ℕ) (n first : ℕ) where
+  stands-seen : (a b : Bool) (k : ℕ) → 0 < size k → 0 < seen size counts n first a b k .rows
+      → (seen size counts n first a b k .size ≡ size k)
+      × (seen size counts n first a b k .start + seen size counts n first a b k .rows * seen size counts n first a b k .size ≤ n)
+  unfolding wholeRows
+  stands-seen false b k z h = absurd (omega arith)
+  stands-seen true false k z h = absurd (omega arith)
+  stands-seen true true k z h =
+      let room : ℕ = n - startOf size counts n first k in
+      let one : 1 * size k ≤ min (getD counts k 0) (room / size k) * size k = mul-le-mul-right (size k) h in
+      let fit : min (getD counts k 0) (room / size k) * size k ≤ room / size k * size k = mul-le-mul-right (size k) (omega arith) in
+      let most = div-mul-le-self room (size k) in
+      (refl, omega arith)
+
+  stands-table : (k : ℕ) → k < 64 → 0 < size k → 0 < table size counts n first k .rows
+      → (table size counts n first k .size ≡ size k)
+      × (table size counts n first k .start + table size counts n first k .rows * table size counts n first k .size ≤ n)
+  unfolding walked ifReached
+  stands-table k l z h =
+      let a = table-at (ifReached size counts n first (startOf size counts n first)) 0 64 k l in
+      let b = table-at (ifReached size counts n first size) 0 64 k l in
+      let c = table-at (ifReached size counts n first (wholeRows size counts n first)) 0 64 k l in
+      rw (a, b, c) (stands-seen (leb k (stopKind size counts n first)) (isTable size counts n first k) k z (rw c at h))
+
+stands-by : (o : Options) (h : Header) (n : ℕ) (a : Opened) (k : ℕ) → k < 64 → 0 < rowSizeIn o h k → 0 < getD (answered a o h n .rows) k 0
+    → (getD (answered a o h n .sizes) k 0 ≡ rowSizeIn o h k)
+    × (getD (answered a o h n .starts) k 0 + getD (answered a o h n .rows) k 0 * getD (answered a o h n .sizes) k 0 ≤ n)
+stands-by o h n (Refused why) k l z r = absurd (omega (arith, zeros k))
+stands-by o h n Ready k l z r = stands-table (rowSizeIn o h) (h .counts) n (h .first) k l z r
+
+pub stands : (o : Options) (h : Header) (n k : ℕ) → k < 45 → 0 < extent o h n k .rows → Stands o h n k
+unfolding extent walkReply
+stands o h n k l r =
+    let s = stands-by o h n (h .answer) k (omega arith) (size-pos (o .security) (h .heap) (h .counts) k l) r in
+    record { sized = s .0; within = s .1 }
+
+-- A table has at most as many whole rows as its count.
+module _ (size : ℕ → ℕ) (counts : List ℕ) (n first : ℕ) where
+  few-seen : (a b : Bool) (k : ℕ) → seen size counts n first a b k .rows ≤ getD counts k 0
+  unfolding wholeRows
+  few-seen false b k = zero-le
+  few-seen true false k = zero-le
+  few-seen true true k = omega arith
+
+few-by : (o : Options) (h : Header) (n : ℕ) (a : Opened) (k : ℕ) → k < 64 → getD (answered a o h n .rows) k 0 ≤ getD (h .counts) k 0
+unfolding walked ifReached
+few-by o h n (Refused why) k l = rw (zeros k) zero-le
+few-by o h n Ready k l =
+    rw (table-at (ifReached (rowSizeIn o h) (h .counts) n (h .first) (wholeRows (rowSizeIn o h) (h .counts) n (h .first))) 0 64 k l)
+    (few-seen (rowSizeIn o h) (h .counts) n (h .first) (leb k (stopKind (rowSizeIn o h) (h .counts) n (h .first))) (isTable (rowSizeIn o h) (h .counts) n (h .first) k) k)
+
+pub few-rows : (o : Options) (h : Header) (n k : ℕ) → k < 64 → extent o h n k .rows ≤ getD (h .counts) k 0
+unfolding extent walkReply
+few-rows o h n k l = few-by o h n (h .answer) k l
 
 pub tables-apart : TablesApart
 tables-apart =

@@ -1,14 +1,12 @@
-// The walk over the tables of the tables stream (ECMA-335 II.24.2.6): where each table begins, its row size and its whole rows.
+// The walk over the tables of an opened tables stream (ECMA-335 II.24.2.6): where each table begins, its row size and its whole rows.
+// The public calls `walk` and `walk_with` stand in crate `walks`.
 use buffers::Refusal;
 use buffers::Reply;
-use header::Opened;
-use header::Options;
 ghost use mathlib.Core.Path.{_≡_};
 ghost use Prim.Native.Nat.{_-_, _/_, _≤_, _<_, min};
 ghost use Rattle.buffers.specs.Replies.{number};
-ghost use Rattle.header.specs.Opening.{base};
 ghost use Rattle.layouts.specs.Columns.{indexSizes, widthIn, rowSize};
-ghost use Rattle.tables.specs.Extents.{walkSays, walked, refusedWalk, walkOf};
+ghost use Rattle.tables.specs.Extents.{walkSays, walked, refusedWalk};
 
 // The kind at which the walk is left, 64 if there is none, or why the stream is refused; and for each kind where it begins in the
 // stream, its row size and its whole rows. The three are 0 for a kind that is empty, unknown or not reached.
@@ -34,7 +32,8 @@ fn whole_rows(room: usize, size: u32, n: u32) -> u32
     if fit < wide(n) { fit as u32 } else { n }
 }
 
-fn refuse(why: Refusal) -> Extents
+// The extents of a stream that is refused.
+pub fn refused_extents(why: Refusal) -> Extents
     ensures { λ r. ⌜ walkSays r ≡ refusedWalk (number why) ⌝ }
 {
     Extents {
@@ -46,7 +45,13 @@ fn refuse(why: Refusal) -> Extents
 }
 
 // The walk over tables whose first begins at a place of a stream of that length.
-fn walk_tables(len: usize, first: usize, heap: u8, counts: &[u32; 64], security: bool) -> Extents
+pub fn walk_tables(
+    len: usize,
+    first: usize,
+    heap: u8,
+    counts: &[u32; 64],
+    security: bool,
+) -> Extents
     requires { ⌜ first ≤ len ⌝ }
     ensures { λ r. ⌜ walkSays r ≡ walked (rowSize (widthIn (indexSizes security heap (now (counts .entry))))) (now (counts .entry)) len first ⌝ }
 {
@@ -83,28 +88,4 @@ fn walk_tables(len: usize, first: usize, heap: u8, counts: &[u32; 64], security:
         sizes,
         rows,
     }
-}
-
-// The walk over a stream that is opened with these options.
-pub fn walk_with(tables: &[u8], options: Options) -> Extents
-    ensures { λ r. ⌜ walkSays r ≡ walkOf options (now (tables .entry)) ⌝ }
-{
-    let h = header::open_stream(tables, options);
-    let answer = h.answer;
-    let counts = h.counts;
-    let first = h.first;
-    let heap = h.heap;
-    let security = options.security;
-    match answer {
-        Opened::Refused(why) => refuse(why),
-        Opened::Ready => walk_tables(tables.len(), first, heap, &counts, security),
-    }
-}
-
-// The walk of the base.
-pub fn walk(tables: &[u8]) -> Extents
-    ensures { λ r. ⌜ walkSays r ≡ walkOf base (now (tables .entry)) ⌝ }
-{
-    let options = header::base_options();
-    walk_with(tables, options)
 }

@@ -1,5 +1,5 @@
 // What each kind of case answers, as text.
-use super::walks::push_walk;
+use super::walk_text::push_walk;
 use buffers::Refusal;
 use buffers::Reply;
 use buffers::push;

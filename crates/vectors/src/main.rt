@@ -6,7 +6,7 @@ ghost use Prim.Native.Nat.{_≤_};
 
 mod answers;
 mod fields;
-mod walks;
+mod walk_text;
 
 fn write(text: &[u8]) {
     io::write_all(1, text);

@@ -11,7 +11,7 @@ use Rattle.bundle.proofs.open_bundle.Reads as open-bundle-reads
 use Rattle.extents_text.proofs.push_refused.Reads as push-refused-reads
 use Rattle.extents_text.proofs.push_walk.Reads as push-walk-reads
 use Rattle.numbers.proofs.cut.Reads as cut-reads
-use Rattle.tables.proofs.walk.Reads as walk-reads
+use Rattle.walks.proofs.walk.Reads as walk-reads
 
 -- src/lib.rt:80:11
 open-bundle-requires : tie.Need-open-bundle-requires

@@ -37,70 +37,70 @@ Inv-loop len first heap counts security index-sizes starts₀ sizes₀ rows₀ a
 abbrev μ-loop : tie.MeasureT-loop
 μ-loop len first heap counts security index-sizes starts₀ sizes₀ rows₀ at₀ kind₀ starts sizes rows at kind = 64 - kind
 
--- src/lib.rt:51:9
+-- src/lib.rt:58:9
 index-sizes-requires : tie.Need-index-sizes-requires Inv-loop μ-loop
 index-sizes-requires c κs = search needs
 
--- src/lib.rt:57:9
+-- src/lib.rt:64:9
 loop-holds : tie.Need-loop-holds Inv-loop μ-loop
 loop-holds c = begin _ _ _ _ (c .before .pre)
 
--- src/lib.rt:61:17
+-- src/lib.rt:68:17
 mul-n : tie.Need-mul-n Inv-loop μ-loop
 mul-n c = search needs
 
--- src/lib.rt:61:17
+-- src/lib.rt:68:17
 element-copy-out-n : tie.Need-element-copy-out-n Inv-loop μ-loop
 element-copy-out-n c = search needs
 
--- src/lib.rt:66:17
+-- src/lib.rt:73:17
 row-size-requires : tie.Need-row-size-requires Inv-loop μ-loop
 row-size-requires c κs = search needs
 
--- src/lib.rt:67:36
+-- src/lib.rt:74:36
 sub-whole-rows : tie.Need-sub-whole-rows Inv-loop μ-loop
 sub-whole-rows c = search needs
 
--- src/lib.rt:67:17
+-- src/lib.rt:74:17
 whole-rows-requires : tie.Need-whole-rows-requires Inv-loop μ-loop
 whole-rows-requires c κs =
     let l = c .before .before .before .before .before in
     let e = size-is _ _ _ _ _ _ (c .row-size .ensures) (l .before .index-sizes .ensures) in
     size-some _ _ _ _ _ e (c .before .if3 .left)
 
--- src/lib.rt:68:13
+-- src/lib.rt:75:13
 mul-starts : tie.Need-mul-starts Inv-loop μ-loop
 mul-starts c = search needs
 
--- src/lib.rt:68:13
+-- src/lib.rt:75:13
 array-write-starts : tie.Need-array-write-starts Inv-loop μ-loop
 array-write-starts c = search needs
 
--- src/lib.rt:69:13
+-- src/lib.rt:76:13
 mul-sizes : tie.Need-mul-sizes Inv-loop μ-loop
 mul-sizes c = search needs
 
--- src/lib.rt:69:13
+-- src/lib.rt:76:13
 array-write-sizes : tie.Need-array-write-sizes Inv-loop μ-loop
 array-write-sizes c = search needs
 
--- src/lib.rt:70:13
+-- src/lib.rt:77:13
 mul-rows : tie.Need-mul-rows Inv-loop μ-loop
 mul-rows c = search needs
 
--- src/lib.rt:70:13
+-- src/lib.rt:77:13
 array-write-rows : tie.Need-array-write-rows Inv-loop μ-loop
 array-write-rows c = search needs
 
--- src/lib.rt:74:19
+-- src/lib.rt:81:19
 wide-requires : tie.Need-wide-requires Inv-loop μ-loop
 wide-requires c κs = search needs
 
--- src/lib.rt:74:29
+-- src/lib.rt:81:29
 wide-requires-2 : tie.Need-wide-requires-2 Inv-loop μ-loop
 wide-requires-2 c κs = search needs
 
--- src/lib.rt:74:19
+-- src/lib.rt:81:19
 mul-at : tie.Need-mul-at Inv-loop μ-loop
 mul-at c =
     let q = c .before .before in
@@ -112,7 +112,7 @@ mul-at c =
     (size-some _ _ _ _ _ e (r .before .if3 .left)) (q .if4 .left) in
     rw (c .before .wide .ensures, c .wide2 .ensures) (omega (arith, h, l .loop .inv .within, l .before .before .fits .len))
 
--- src/lib.rt:74:13
+-- src/lib.rt:81:13
 add-at : tie.Need-add-at Inv-loop μ-loop
 add-at c =
     let q = c .before .before in
@@ -124,15 +124,15 @@ add-at c =
     (size-some _ _ _ _ _ e (r .before .if3 .left)) (q .if4 .left) in
     rw (c .before .wide .ensures, c .wide2 .ensures) (omega (arith, h, l .loop .inv .within, l .before .before .fits .len))
 
--- src/lib.rt:76:9
+-- src/lib.rt:83:9
 add-kind : tie.Need-add-kind Inv-loop μ-loop
 add-kind c = search needs
 
--- src/lib.rt:57:9
+-- src/lib.rt:64:9
 loop-less : tie.Need-loop-less Inv-loop μ-loop
 loop-less c = search needs
 
--- src/lib.rt:57:9
+-- src/lib.rt:64:9
 loop-again : tie.Need-loop-again Inv-loop μ-loop
 loop-again c =
     let a = c .before in
@@ -146,17 +146,17 @@ loop-again c =
     (λ w. rw (w .1, w .2, w .3, w .4) (skipped _ _ _ _ _ _ _ _ _ (l .loop .inv) (a .before .if1 .left) (w .0 .left)))
     (c .if2 .came)
 
--- src/lib.rt:47:1
+-- src/lib.rt:48:1
 returns : tie.Need-returns Inv-loop μ-loop
 returns c = ended _ _ _ _ _ _ _ _ _ (c .before .loop .inv) (c .if1 .taken)
 
--- src/lib.rt:47:1
+-- src/lib.rt:48:1
 returns-2 : tie.Need-returns-2 Inv-loop μ-loop
 returns-2 c =
     let a = c .before .before in
     unknown _ _ _ _ _ _ _ _ _ (a .before .before .loop .inv) (a .before .if1 .left) (c .before .if2 .taken) (c .if3 .taken)
 
--- src/lib.rt:47:1
+-- src/lib.rt:48:1
 returns-3 : tie.Need-returns-3 Inv-loop μ-loop
 returns-3 c =
     let r = c .before .before in

@@ -1,0 +1,43 @@
+-- Calls on a stream and on an allowed rearrangement of it have one answer (record/proofs/Demand.antt), so their replies and buffers are
+-- the same. Assumes nothing.
+use mathlib.Core.Path.{_≡_, sym, ap, _∙_}
+use mathlib.Core.List.{List, []}
+use Prim.Native.Nat.{ℕ}
+use lib.ListN.{length}
+use Rattle.buffers.specs.Replies.{Named}
+use Rattle.buffers.specs.declared.Reply.{Reply}
+use Rattle.buffers.proofs.Replies.{reply-same}
+use Rattle.header.specs.declared.Options.{Options}
+use Rattle.tables.specs.Extents.{Walked, walkSays, walkOf}
+use Rattle.tables.specs.declared.Extents.{Extents}
+use Rattle.record.specs.View.{view}
+use Rattle.record.specs.Rearrangement.{Rearranged}
+use Rattle.record.specs.Answers.{NumberCall, numberAnswer, NameCall, nameAnswer, Numbered}
+use Rattle.record.proofs.Laws.{walk-is}
+use Rattle.record.proofs.Demand.{rearrangement-survives}
+
+module _ {o : Options} {t u : List ℕ} (rearranged : Rearranged o t u) where
+  pub number-alike : (strings blob : List ℕ) (call : NumberCall) (r r′ : Reply)
+      → Numbered (numberAnswer call (view o t strings blob)) r → Numbered (numberAnswer call (view o u strings blob)) r′ → r′ ≡ r
+  number-alike strings blob call r r′ x y = rearrangement-survives o t u strings blob rearranged .1 .numbers-same call r r′ x y
+
+  pub name-alike : (strings blob : List ℕ) (call : NameCall) {b b′ d d′ : List ℕ} {r r′ : Reply} → length b′ ≡ length b
+      → Named (nameAnswer call (view o t strings blob)) b r d → Named (nameAnswer call (view o u strings blob)) b′ r′ d′ → (r′ ≡ r) × (d′ ≡ d)
+  name-alike strings blob call {b} {b′} {d} {d′} {r} {r′} l x y =
+      rearrangement-survives o t u strings blob rearranged .1 .names-same call b b′ d d′ r r′ l x y
+
+  -- A walk's reply is known by what it says.
+  says-same : (w x : Extents) → walkSays x ≡ walkSays w → x ≡ w
+  says-same w x e =
+      let answer = reply-same (x .answer) (w .answer) (ap (λ (s : Walked). s .stop) e) in
+      let starts = ap (λ (s : Walked). s .starts) e in
+      let sizes = ap (λ (s : Walked). s .sizes) e in
+      let rows = ap (λ (s : Walked). s .rows) e in
+      let same : _≡_ {A = Extents}
+      (record { answer = x .answer; starts = x .starts; sizes = x .sizes; rows = x .rows })
+      (record { answer = w .answer; starts = w .starts; sizes = w .sizes; rows = w .rows }) = rw (answer, starts, sizes, rows) in
+      same
+
+  pub walk-alike : (w x : Extents) → walkSays w ≡ walkOf o t → walkSays x ≡ walkOf o u → x ≡ w
+  walk-alike w x e f =
+      says-same w x (f ∙ sym (walk-is o u [] []) ∙ rearrangement-survives o t u [] [] rearranged .1 .walk-same ∙ walk-is o t [] [] ∙ sym e)

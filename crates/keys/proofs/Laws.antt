@@ -1,0 +1,174 @@
+-- What rows of a key come to: the steps of the scans, and that the list of a key has as many items as rows of the key, each in its place.
+-- Assumes nothing.
+use mathlib.Core.Path.{_≡_, refl, sym, ap, _∙_, subst}
+use mathlib.Core.Bool.{Bool, true, false, cond}
+use mathlib.Core.List.{List, [], _∷_, _++_}
+use mathlib.Core.Option.{Option, none, some}
+use Prim.Native.Nat.{ℕ, zero, suc, _+_, _≤_, _<_}
+use native.Mathlib.Nat.{le-of-suc-le-suc, not-suc-le-zero}
+use native.Mathlib.Numerals.{add-one}
+use native.Mathlib.Omega.{arith}
+use borrow.Author.Tests.{eq-eqb, ne-eqb}
+use lib.Dec.{eqb}
+use lib.ListN.{length, getElem?, length-append}
+use Rattle.buffers.specs.Texts.{Text}
+use Rattle.heaps.specs.Lookups.{string}
+use Rattle.tables.specs.Extents.{sizesIn}
+use Rattle.record.specs.Rows.{ofKey}
+use Rattle.record.specs.Columns.{column, genericName, implInterface}
+use Rattle.record.specs.View.{viewOf, sideRow, sideRows}
+use Rattle.record.proofs.Keyed.{cut}
+use Rattle.layouts.specs.Read.{readColumn}
+use Rattle.rows.specs.Layout.{optionsIn, headerIn, rowsAt, cell, Laid, viewIn}
+use Rattle.rows.proofs.Laws.{rows-at}
+use Rattle.keys.specs.Keyed.{keyed, FoundIs}
+use Rattle.keys.specs.declared.Row.{Row}
+use Rattle.keys.specs.declared.Row.the-variants.{At, NoRow}
+
+-- The turns of a scan: x is what was read of row i.
+module _ (f : ℕ → ℕ) (k i : ℕ) {x seen : ℕ} (read : x ≡ f i) where
+  pub key-met : x ≡ k → seen ≡ keyed f k i → seen + 1 ≡ keyed f k (i + 1)
+  unfolding keyed
+  key-met e s = rw (add-one i, eq-eqb (f i) k (sym read ∙ e)) (ap (λ (n : ℕ). n + 1) s)
+
+  pub key-passed : (x ≡ k → ⊥) → seen ≡ keyed f k i → seen ≡ keyed f k (i + 1)
+  unfolding keyed
+  key-passed e s = rw (add-one i, ne-eqb (f i) k (λ q. e (read ∙ q))) s
+
+-- Its start and its end.
+pub none-seen : (f : ℕ → ℕ) (k : ℕ) → 0 ≡ keyed f k 0
+unfolding keyed
+none-seen f k = refl
+
+pub all-seen : (f : ℕ → ℕ) (k i n : ℕ) {seen : ℕ} → i ≡ n → seen ≡ keyed f k i → seen ≡ keyed f k n
+all-seen f k i n e s = s ∙ ap (keyed f k) e
+
+item-seam : {B : Type 0} (l : List B) (x : B) (rest : List B) → getElem? (l ++ x ∷ rest) (length l) ≡ some x
+item-seam [] x rest = refl
+item-seam (y ∷ l) x rest = item-seam l x rest
+
+item-past : {B : Type 0} (l : List B) (i : ℕ) → length l ≤ i → getElem? l i ≡ none
+item-past [] i h = refl
+item-past (y ∷ l) zero h = absurd (not-suc-le-zero h)
+item-past (y ∷ l) (suc i) h = item-past l i (le-of-suc-le-suc h)
+
+-- ---- The list of a key, of any table
+
+module _ {B : Type 0} (key : List ℕ → ℕ) (value : List ℕ → B) (row : ℕ → List ℕ) (k : ℕ) where
+  length-more : (x : Bool) (l : List B) (w : B) (n : ℕ) → length l ≡ n → length (cond x (l ++ w ∷ []) l) ≡ cond x (n + 1) n
+  length-more true l w n e = rw e at (length-append l (w ∷ []))
+  length-more false l w n e = e
+
+  pub ofKey-length : (n : ℕ) → length (ofKey key value row n k) ≡ keyed (λ i. key (row i)) k n
+  unfolding keyed
+  ofKey-length zero = refl
+  ofKey-length (suc n) = length-more (eqb (key (row n)) k) (ofKey key value row n k) (value (row n)) _ (ofKey-length n)
+
+  pub ofKey-item : (n nth i : ℕ) → i < n → key (row i) ≡ k → keyed (λ j. key (row j)) k i ≡ nth
+      → getElem? (ofKey key value row n k) nth ≡ some (value (row i))
+  ofKey-item n nth i h e s =
+      let c = cut key value row k n i h e in
+      let at : nth ≡ length (ofKey key value row i k) = sym (ofKey-length i ∙ s) in
+      rw (c .1, at) (item-seam (ofKey key value row i k) (value (row i)) (c .0))
+
+  pub ofKey-past : (n nth : ℕ) → keyed (λ j. key (row j)) k n ≤ nth → getElem? (ofKey key value row n k) nth ≡ none
+  ofKey-past n nth h = item-past (ofKey key value row n k) nth (omega (arith, ofKey-length n))
+
+-- ---- The list of a key, of a table that is read by a layout
+
+module _ {t l : List ℕ} (laid : Laid t l) where
+  -- The key in column c of the table's rows, and the rows.
+  abbrev keyOf : ℕ → List ℕ → ℕ
+  keyOf c = column (readColumn c .kind) (readColumn c .place) (sizesIn (optionsIn l) (headerIn t l))
+
+  abbrev rowOf : ℕ → ℕ → List ℕ
+  rowOf c = sideRow (optionsIn l) (headerIn t l) t (readColumn c .kind)
+
+  -- By the key column c and the value of a row:
+  module _ {B : Type 0} (c : ℕ) (known : c < 19) (value : List ℕ → B) (k : ℕ) where
+    abbrev listed : List B
+    listed = ofKey (keyOf c) value (rowOf c) (sideRows (optionsIn l) (headerIn t l) t (readColumn c .kind)) k
+
+    listed-count : length listed ≡ keyed (cell t l c) k (rowsAt l c)
+    listed-count = rw (rows-at laid c known) (ofKey-length (keyOf c) value (rowOf c) k _)
+
+    listed-item : (nth i : ℕ) → FoundIs (cell t l c) k (rowsAt l c) nth (At i) → getElem? listed nth ≡ some (value (rowOf c i))
+    listed-item nth i h =
+        ofKey-item (keyOf c) value (rowOf c) k (sideRows (optionsIn l) (headerIn t l) t (readColumn c .kind)) nth i
+        (rw (rows-at laid c known) at (h .0)) (h .1) (h .2)
+
+    listed-past : (nth : ℕ) → FoundIs (cell t l c) k (rowsAt l c) nth NoRow → getElem? listed nth ≡ none
+    listed-past nth h =
+        ofKey-past (keyOf c) value (rowOf c) k (sideRows (optionsIn l) (headerIn t l) t (readColumn c .kind)) nth (rw (rows-at laid c known) at h)
+
+-- ---- The names of an owner's generic parameters, by the view
+
+module _ {t l : List ℕ} (laid : Laid t l) (strings blob : List ℕ) (k : ℕ) where
+  abbrev names : List (Option Text)
+  names = viewIn t l strings blob .generics k
+
+  -- The name that a row of GenericParam gives.
+  abbrev nameAt : List ℕ → Option Text
+  nameAt r = string strings (genericName (sizesIn (optionsIn l) (headerIn t l)) r)
+
+  -- What a search among the owners finds.
+  abbrev Finds : ℕ → Row → Type 0
+  Finds = FoundIs (cell t l 17) k (rowsAt l 17)
+
+  pub generics-count : length names ≡ keyed (cell t l 17) k (rowsAt l 17)
+  unfolding viewOf
+  generics-count = listed-count laid 17 (omega arith) nameAt k
+
+  pub generics-item : (nth i : ℕ) → Finds nth (At i) → (i < rowsAt l 18) × (getElem? names nth ≡ some (string strings (cell t l 18 i)))
+  unfolding viewOf
+  generics-item nth i h =
+      let a = rows-at laid 17 (omega arith) in
+      let b = rows-at laid 18 (omega arith) in
+      (omega arith, listed-item laid 17 (omega arith) nameAt k nth i h)
+
+  pub generics-past : (nth : ℕ) → Finds nth NoRow → getElem? names nth ≡ none
+  unfolding viewOf
+  generics-past nth h = listed-past laid 17 (omega arith) nameAt k nth h
+
+  -- The same of an answer that was matched.
+  pub generics-found : (nth i : ℕ) {r : Row} → Finds nth r → r ≡ At i
+      → (i < rowsAt l 18) × (getElem? names nth ≡ some (string strings (cell t l 18 i)))
+  generics-found nth i h e = generics-item nth i (subst (Finds nth) e h)
+
+  pub generics-missed : (nth : ℕ) {r : Row} → Finds nth r → r ≡ NoRow → getElem? names nth ≡ none
+  generics-missed nth h e = generics-past nth (subst (Finds nth) e h)
+
+-- ---- The Interface columns of a class, by the view
+
+module _ {t l : List ℕ} (laid : Laid t l) (strings blob : List ℕ) (k : ℕ) where
+  abbrev impls : List ℕ
+  impls = viewIn t l strings blob .interfaces k
+
+  abbrev implAt : List ℕ → ℕ
+  implAt r = implInterface (sizesIn (optionsIn l) (headerIn t l)) r
+
+  -- What a search among the classes finds.
+  abbrev FindsImpl : ℕ → Row → Type 0
+  FindsImpl = FoundIs (cell t l 12) k (rowsAt l 12)
+
+  pub interfaces-count : length impls ≡ keyed (cell t l 12) k (rowsAt l 12)
+  unfolding viewOf
+  interfaces-count = listed-count laid 12 (omega arith) implAt k
+
+  pub interfaces-item : (nth i : ℕ) → FindsImpl nth (At i) → (i < rowsAt l 13) × (getElem? impls nth ≡ some (cell t l 13 i))
+  unfolding viewOf
+  interfaces-item nth i h =
+      let a = rows-at laid 12 (omega arith) in
+      let b = rows-at laid 13 (omega arith) in
+      (omega arith, listed-item laid 12 (omega arith) implAt k nth i h)
+
+  pub interfaces-past : (nth : ℕ) → FindsImpl nth NoRow → getElem? impls nth ≡ none
+  unfolding viewOf
+  interfaces-past nth h = listed-past laid 12 (omega arith) implAt k nth h
+
+  -- The same of an answer that was matched.
+  pub interfaces-found : (nth i : ℕ) {r : Row} → FindsImpl nth r → r ≡ At i → (i < rowsAt l 13) × (getElem? impls nth ≡ some (cell t l 13 i))
+  interfaces-found nth i h e = interfaces-item nth i (subst (FindsImpl nth) e h)
+
+  pub interfaces-missed : (nth : ℕ) {r : Row} → FindsImpl nth r → r ≡ NoRow → getElem? impls nth ≡ none
+  interfaces-missed nth h e = interfaces-past nth (subst (FindsImpl nth) e h)

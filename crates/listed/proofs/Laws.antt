@@ -1,0 +1,132 @@
+-- A class that is listed has its row, and its methods are those of its range. Cited by every call. Assumes nothing.
+use mathlib.Core.Path.{_≡_, refl, sym, ap, subst, _∙_}
+use mathlib.Core.Bool.{Bool, true, false, cond}
+use mathlib.Core.List.{List}
+use Prim.Native.Nat.{ℕ, _+_, _-_, _≤_, _<_}
+use native.Mathlib.Omega.{arith}
+use borrow.Author.Tests.{leb-true, leb-false}
+use lib.Dec.{leb}
+use lib.ListN.{length}
+use Rattle.numbers.proofs.Lists.{tabulate-item, tabulate-past, tabulate-length}
+use Rattle.buffers.specs.Replies.{refused, value, number}
+use Rattle.buffers.specs.declared.Refusal.the-variants.{NoSuchRow}
+use Rattle.classes.specs.Numbering.{rowOf}
+use Rattle.classes.specs.declared.ClassNumber.{ClassNumber}
+use Rattle.classes.specs.declared.TypeDefRow.{TypeDefRow}
+use Rattle.record.specs.View.{View, viewOf}
+use Rattle.layouts.specs.Kinds.{methodDef}
+use Rattle.record.specs.Names.{classes, rowsIn}
+use Rattle.record.specs.Methods.{leftAfter}
+use Rattle.record.specs.Record.{Class, method, class}
+use Rattle.record.specs.Answers.{_⟫_, orNoRow, item, theClass, theMethod, methodCount}
+use Rattle.record.proofs.Laws.{class-at, class-none}
+use Rattle.rows.specs.Layout.{Laid, rowsAt, viewIn}
+use Rattle.rows.proofs.Laws.{rows-at, rows-narrow}
+use Rattle.methods.specs.Ranges.{RangeOf}
+use Rattle.listed.specs.Listed.{ClassRowIs, at-row, no-row, MethodRowIs, at-method, no-method}
+use Rattle.listed.specs.declared.ClassRow.{ClassRow}
+use Rattle.listed.specs.declared.ClassRow.the-variants.{Row, NoRow}
+use Rattle.listed.specs.declared.MethodRow.{MethodRow}
+use Rattle.listed.specs.declared.MethodRow.the-variants.{Row as MethodAt, NoRow as NoMethod}
+
+-- The row of a class, by whether a row has such a number.
+module _ (c : ClassNumber) {r : TypeDefRow} (e : r ≡ rowOf c) where
+  pub row-low : r .0 < 2 → 0xFFFF_FFFF < c .0 + 2
+  unfolding rowOf
+  row-low h = go (leb (c .0 + 2) 0xFFFF_FFFF) refl (ap (λ (x : TypeDefRow). x .0) e)
+    where
+      go : (b : Bool) → leb (c .0 + 2) 0xFFFF_FFFF ≡ b → r .0 ≡ cond {A = TypeDefRow} b (record { 0 = c .0 + 2 }) (record { 0 = 0 }) .0 → 0xFFFF_FFFF < c .0 + 2
+      go true q i = absurd (omega arith)
+      go false q i = leb-false (c .0 + 2) 0xFFFF_FFFF q
+
+  pub row-is : 2 ≤ r .0 → r .0 ≡ c .0 + 2
+  unfolding rowOf
+  row-is h = go (leb (c .0 + 2) 0xFFFF_FFFF) (ap (λ (x : TypeDefRow). x .0) e)
+    where
+      go : (b : Bool) → r .0 ≡ cond {A = TypeDefRow} b (record { 0 = c .0 + 2 }) (record { 0 = 0 }) .0 → r .0 ≡ c .0 + 2
+      go true i = i
+      go false i = absurd (omega arith)
+
+-- What a caller that has matched the answer knows.
+module _ {l : List ℕ} {c : ℕ} where
+  row-in : {row : TypeDefRow} → ClassRowIs l c (Row row) → (row .0 ≡ c + 2) × (c + 2 ≤ rowsAt l 3)
+  row-in (at-row e h) = (e, h)
+
+  row-out : ClassRowIs l c NoRow → rowsAt l 3 < c + 2
+  row-out (no-row h) = h
+
+  module _ {r : ClassRow} (h : ClassRowIs l c r) where
+    pub class-found : {row : TypeDefRow} → r ≡ Row row → (row .0 ≡ c + 2) × (c + 2 ≤ rowsAt l 3)
+    class-found e = row-in (subst (ClassRowIs l c) e h)
+
+    pub class-missed : r ≡ NoRow → rowsAt l 3 < c + 2
+    class-missed e = row-out (subst (ClassRowIs l c) e h)
+
+module _ {t l : List ℕ} (laid : Laid t l) (strings blob : List ℕ) where
+  abbrev v : View
+  v = viewIn t l strings blob
+
+  pub classes-are : classes v ≡ rowsAt l 3 - 1
+  unfolding classes viewOf
+  classes-are = ap (λ (n : ℕ). n - 1) (sym (rows-at laid 3 (omega arith)))
+
+  pub listed : (c : ℕ) → c + 2 ≤ rowsAt l 3 → theClass v c ≡ value (class v c)
+  unfolding viewOf
+  listed c h = class-at v c (laid .ready) (omega (arith, classes-are))
+
+  pub unlisted : (c : ℕ) → rowsAt l 3 < c + 2 → theClass v c ≡ refused (number NoSuchRow)
+  unfolding viewOf
+  unlisted c h = class-none v c (laid .ready) (omega (arith, classes-are))
+
+  -- MethodDef has no more rows than 32 bits can say.
+  pub methods-narrow : rowsIn v methodDef < 4_294_967_296
+  unfolding viewOf
+  methods-narrow = rw (← rows-at laid 8 (omega arith)) (rows-narrow laid 8 (omega arith))
+
+-- The range of a class by its row.
+pub range-of : {v : View} {c r first end : ℕ} → r ≡ c + 2 → RangeOf v (r - 2) first end → RangeOf v c first end
+range-of {v} {c} {r} {first} {end} e range = let i : r - 2 ≡ c = omega arith in subst (λ (k : ℕ). RangeOf v k first end) i range
+
+-- The methods of a class are those of its range.
+module _ (v : View) (c : ℕ) {first end : ℕ} (is : theClass v c ≡ value (class v c)) (range : RangeOf v c first end) where
+  pub methods-counted : methodCount v c ≡ value (end - first)
+  unfolding methodCount class
+  methods-counted =
+      let n : leftAfter v (c + 1) - leftAfter v c ≡ end - first = omega (arith, range .begins, range .ends) in
+      ap (λ a. a ⟫ (λ k. value (length (k .methods)))) is
+      ∙ ap value (tabulate-length (method v) (leftAfter v c) (leftAfter v (c + 1) - leftAfter v c) ∙ n)
+
+  module _ (m : ℕ) where
+    pub method-there : {i : ℕ} → i ≡ first + m → i < end → MethodRowIs v c m (MethodAt i)
+    unfolding class
+    method-there {i} e h =
+        let at : leftAfter v c + m ≡ i = omega (arith, range .begins) in
+        at-method
+        (ap (λ a. a ⟫ (λ k. item (k .methods) m)) is
+        ∙ ap orNoRow (tabulate-item (method v) (leftAfter v c) (leftAfter v (c + 1) - leftAfter v c) m (omega (arith, range .begins, range .ends)))
+        ∙ ap (λ j. value (method v j)) at)
+        (omega (arith, range .inside))
+
+    pub method-past : end ≤ first + m → MethodRowIs v c m NoMethod
+    unfolding class
+    method-past h =
+        no-method (ap (λ a. a ⟫ (λ k. item (k .methods) m)) is
+        ∙ ap orNoRow (tabulate-past (method v) (leftAfter v c) (leftAfter v (c + 1) - leftAfter v c) m (omega (arith, range .begins, range .ends))))
+
+pub method-none : (v : View) (c m : ℕ) → theClass v c ≡ refused (number NoSuchRow) → MethodRowIs v c m NoMethod
+method-none v c m e = no-method (ap (λ a. a ⟫ (λ k. item (k .methods) m)) e)
+
+-- What a caller that has matched the answer knows.
+module _ {v : View} {c m : ℕ} where
+  method-in : {i : ℕ} → MethodRowIs v c m (MethodAt i) → (theMethod v c m ≡ value (method v i)) × (i < rowsIn v methodDef)
+  method-in (at-method e h) = (e, h)
+
+  method-out : MethodRowIs v c m NoMethod → theMethod v c m ≡ refused (number NoSuchRow)
+  method-out (no-method e) = e
+
+  module _ {r : MethodRow} (h : MethodRowIs v c m r) where
+    pub method-found : {i : ℕ} → r ≡ MethodAt i → (theMethod v c m ≡ value (method v i)) × (i < rowsIn v methodDef)
+    method-found e = method-in (subst (MethodRowIs v c m) e h)
+
+    pub method-missed : r ≡ NoMethod → theMethod v c m ≡ refused (number NoSuchRow)
+    method-missed e = method-out (subst (MethodRowIs v c m) e h)

@@ -1,0 +1,171 @@
+-- What a call answers of a class or a method that is listed: the values of its row, and the rows of the side tables that are its own.
+-- Assumes nothing.
+use mathlib.Core.Path.{_≡_, refl, sym, ap, _∙_}
+use mathlib.Core.List.{List}
+use mathlib.Core.Option.{Option, some}
+use Prim.Native.Nat.{ℕ, _+_, _-_, _*_, _≤_, _<_}
+use native.Mathlib.Omega.{arith}
+use lib.ListN.{length, getElem?}
+use Rattle.buffers.specs.Texts.{Text}
+use Rattle.buffers.specs.Replies.{Answer, refused, value, number, nameOr5, Named}
+use Rattle.buffers.specs.declared.Reply.{Reply}
+use Rattle.buffers.specs.declared.Reply.the-variants.{Is, No}
+use Rattle.buffers.specs.declared.Refusal.the-variants.{NoSuchRow}
+use Rattle.heaps.specs.Lookups.{string}
+use Rattle.classes.specs.declared.TypeDefRow.{TypeDefRow}
+use Rattle.layouts.specs.Kinds.{methodDef}
+use Rattle.layouts.specs.Read.{readColumn}
+use Rattle.tables.specs.Extents.{keptRows}
+use Rattle.record.specs.Missing.{over, andThen, orDefault}
+use Rattle.record.specs.Columns as columns
+use Rattle.record.specs.View.{View, viewOf}
+use Rattle.record.specs.Names.{classes, rowsIn, sizesOf, classFullName}
+use Rattle.record.specs.Record.{method, class, classRecord}
+use Rattle.record.specs.Answers.{_⟫_, ready, orNoRow, item, theClass, theMethod, Numbered, classCount, classFlags, className, genericCount, genericName, methodCount, methodFlags, methodName, methodGenericCount, methodGenericName}
+use Rattle.record.proofs.Laws.{record-length}
+use Rattle.record.proofs.Read.{class-row, method-row}
+use Rattle.rows.specs.Layout.{Laid, rowsAt, cell, optionsIn, headerIn, viewIn}
+use Rattle.rows.proofs.Laws.{rows-at}
+use Rattle.methods.specs.Ranges.{RangeOf}
+use Rattle.keys.specs.Keyed.{FoundIs}
+use Rattle.keys.specs.declared.Row.{Row}
+use Rattle.keys.specs.declared.Row.the-variants.{At, NoRow}
+use Rattle.keys.proofs.Laws.{generics-found, generics-missed}
+use Rattle.listed.proofs.Laws.{classes-are, listed, unlisted, range-of, methods-counted}
+
+-- What is asked of a class or a method by way of its place: the value, or the refusal that stands.
+through : {A B : Type 0} {a : Answer A} (f : A → Answer B) {x : A} → a ≡ value x → (a ⟫ f) ≡ f x
+through f e = ap (λ a. a ⟫ f) e
+
+stopped : {A B : Type 0} {a : Answer A} (f : A → Answer B) {n : ℕ} → a ≡ refused n → (a ⟫ f) ≡ refused n
+stopped f e = ap (λ a. a ⟫ f) e
+
+named-as : {a a′ : Answer Text} {b b′ : List ℕ} {r : Reply} → a ≡ a′ → Named a′ b r b′ → Named a b r b′
+named-as e n = rw e n
+
+module _ {t l : List ℕ} (laid : Laid t l) (strings blob : List ℕ) where
+  abbrev v : View
+  v = viewIn t l strings blob
+
+  pub class-counted : {n : ℕ} → n ≡ rowsAt l 3 - 1 → Numbered (classCount v) (Is n)
+  unfolding classCount viewOf
+  class-counted e =
+      ap value (e ∙ sym (record-length v ∙ classes-are laid strings blob))
+      ∙ sym (ap (λ a. ready a ⟫ (λ _. value (classRecord v)) ⟫ (λ l. value (length l))) (laid .ready))
+
+  -- A class that is listed, with its row.
+  module _ (c : ℕ) {row : TypeDefRow} (at : (row .0 ≡ c + 2) × (c + 2 ≤ rowsAt l 3)) where
+    is : theClass v c ≡ value (class v c)
+    is = listed laid strings blob c (at .1)
+
+    pub class-flags : {x : ℕ} → x ≡ cell t l 2 (row .0 - 1) → Numbered (classFlags v c) (Is x)
+    unfolding classFlags class viewOf
+    class-flags e =
+        let i : row .0 - 1 ≡ c + 1 = omega (arith, at .0) in
+        ap value (e ∙ ap (cell t l 2) i)
+        ∙ sym (through (λ k. value (k .flags)) is
+        ∙ ap (λ (r : Option (List ℕ)). value (orDefault 0 (over (columns.typeFlags (sizesOf v)) r)))
+        (class-row (optionsIn l) t strings blob c (omega (arith, classes-are laid strings blob, at .1))))
+
+    pub class-name : {b b′ : List ℕ} {r : Reply} → Named (nameOr5 (classFullName v (row .0))) b r b′ → Named (className v c) b r b′
+    unfolding className class
+    class-name n = named-as (through (λ k. nameOr5 (k .name)) is ∙ ap (λ (i : ℕ). nameOr5 (classFullName v i)) (sym (at .0))) n
+
+    pub class-generics : {x : ℕ} → x ≡ length (v .generics (2 * row .0)) → Numbered (genericCount v c) (Is x)
+    unfolding genericCount class
+    class-generics e = ap value (e ∙ ap (λ (i : ℕ). length (v .generics (2 * i))) (at .0)) ∙ sym (through (λ k. value (length (k .generics))) is)
+
+    pub class-generic : (g : ℕ) {b b′ : List ℕ} {r : Reply} → Named (orNoRow (getElem? (v .generics (2 * row .0)) g) ⟫ nameOr5) b r b′
+        → Named (genericName v c g) b r b′
+    unfolding genericName class
+    class-generic g n =
+        named-as (through (λ k. item (k .generics) g ⟫ nameOr5) is ∙ ap (λ (i : ℕ). orNoRow (getElem? (v .generics (2 * i)) g) ⟫ nameOr5) (sym (at .0))) n
+
+    pub class-methods : {first end : ℕ} → RangeOf v (row .0 - 2) first end → Numbered (methodCount v c) (Is (end - first))
+    class-methods r = sym (methods-counted v c is (range-of (at .0) r))
+
+  -- A class that is not: every call for it answers 4.
+  module _ (c : ℕ) (h : rowsAt l 3 < c + 2) where
+    isn't : theClass v c ≡ refused (number NoSuchRow)
+    isn't = unlisted laid strings blob c h
+
+    pub no-class-flags : Numbered (classFlags v c) (No NoSuchRow)
+    unfolding classFlags
+    no-class-flags = sym (stopped (λ k. value (k .flags)) isn't)
+
+    pub no-class-generics : Numbered (genericCount v c) (No NoSuchRow)
+    unfolding genericCount
+    no-class-generics = sym (stopped (λ k. value (length (k .generics))) isn't)
+
+    pub no-class-methods : Numbered (methodCount v c) (No NoSuchRow)
+    unfolding methodCount
+    no-class-methods = sym (stopped (λ k. value (length (k .methods))) isn't)
+
+    module _ {b b′ : List ℕ} {r : Reply} (n : Named (refused (number NoSuchRow)) b r b′) where
+      pub no-class-name : Named (className v c) b r b′
+      unfolding className
+      no-class-name = named-as (stopped (λ k. nameOr5 (k .name)) isn't) n
+
+      pub no-class-generic : (g : ℕ) → Named (genericName v c g) b r b′
+      unfolding genericName
+      no-class-generic g = named-as (stopped (λ k. item (k .generics) g ⟫ nameOr5) isn't) n
+
+  -- A method that is listed, at a place of MethodDef.
+  module _ (c m : ℕ) {i : ℕ} (at : (theMethod v c m ≡ value (method v i)) × (i < rowsIn v methodDef)) where
+    pub method-inside : (d : ℕ) → d < 19 → readColumn d .kind ≡ methodDef → i < rowsAt l d
+    unfolding viewOf
+    method-inside d k e =
+        let r = rows-at laid d k ∙ ap (keptRows (optionsIn l) (headerIn t l) (length t)) e in
+        omega (arith, at .1)
+
+    pub method-flags : {x : ℕ} → x ≡ cell t l 7 i → Numbered (methodFlags v c m) (Is x)
+    unfolding methodFlags method viewOf
+    method-flags e =
+        ap value e
+        ∙ sym (through (λ k. value (k .flags)) (at .0)
+        ∙ ap (λ (r : Option (List ℕ)). value (orDefault 0 (over (columns.methodFlags (sizesOf v)) r))) (method-row (optionsIn l) t strings blob i (at .1)))
+
+    pub method-name : {b b′ : List ℕ} {r : Reply} → Named (nameOr5 (string strings (cell t l 8 i))) b r b′ → Named (methodName v c m) b r b′
+    unfolding methodName method viewOf
+    method-name n =
+        named-as (through (λ k. nameOr5 (k .name)) (at .0)
+        ∙ ap (λ (r : Option (List ℕ)). nameOr5 (andThen r (λ bytes. string strings (columns.methodName (sizesOf v) bytes))))
+        (method-row (optionsIn l) t strings blob i (at .1))) n
+
+    pub method-generics : {x : ℕ} → x ≡ length (v .generics (2 * (i + 1) + 1)) → Numbered (methodGenericCount v c m) (Is x)
+    unfolding methodGenericCount method
+    method-generics e = ap value e ∙ sym (through (λ k. value (length (k .generics))) (at .0))
+
+    pub method-generic : (g : ℕ) {b b′ : List ℕ} {r : Reply} → Named (orNoRow (getElem? (v .generics (2 * (i + 1) + 1)) g) ⟫ nameOr5) b r b′
+        → Named (methodGenericName v c m g) b r b′
+    unfolding methodGenericName method
+    method-generic g n = named-as (through (λ k. item (k .generics) g ⟫ nameOr5) (at .0)) n
+
+  -- A method that is not: every call for it answers 4.
+  module _ (c m : ℕ) (isn't : theMethod v c m ≡ refused (number NoSuchRow)) where
+    pub no-method-flags : Numbered (methodFlags v c m) (No NoSuchRow)
+    unfolding methodFlags
+    no-method-flags = sym (stopped (λ k. value (k .flags)) isn't)
+
+    pub no-method-generics : Numbered (methodGenericCount v c m) (No NoSuchRow)
+    unfolding methodGenericCount
+    no-method-generics = sym (stopped (λ k. value (length (k .generics))) isn't)
+
+    module _ {b b′ : List ℕ} {r : Reply} (n : Named (refused (number NoSuchRow)) b r b′) where
+      pub no-method-name : Named (methodName v c m) b r b′
+      unfolding methodName
+      no-method-name = named-as (stopped (λ k. nameOr5 (k .name)) isn't) n
+
+      pub no-method-generic : (g : ℕ) → Named (methodGenericName v c m g) b r b′
+      unfolding methodGenericName
+      no-method-generic g = named-as (stopped (λ k. item (k .generics) g ⟫ nameOr5) isn't) n
+
+  -- A generic parameter that was searched for among those of an owner, and its name that answers a call.
+  module _ (owner : ℕ) {nth g : ℕ} {r : Row} (e : nth ≡ g) (found : FoundIs (cell t l 17) owner (rowsAt l 17) nth r) {b b′ : List ℕ} {reply : Reply} where
+    pub named-generic : {i : ℕ} → r ≡ At i → Named (nameOr5 (string strings (cell t l 18 i))) b reply b′
+        → Named (orNoRow (getElem? (v .generics owner) g) ⟫ nameOr5) b reply b′
+    named-generic {i} f n = rw (← e, generics-found laid strings blob owner nth i found f .1) n
+
+    pub named-no-generic : r ≡ NoRow → Named (refused (number NoSuchRow)) b reply b′
+        → Named (orNoRow (getElem? (v .generics owner) g) ⟫ nameOr5) b reply b′
+    named-no-generic f n = rw (← e, generics-missed laid strings blob owner nth found f) n

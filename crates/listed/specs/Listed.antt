@@ -1,0 +1,27 @@
+-- Which row is meant by a class's place in the record, and by a method's place in its class.
+use mathlib.Core.Path.{_≡_}
+use mathlib.Core.List.{List}
+use Prim.Native.Nat.{ℕ, _+_, _<_, _≤_}
+use Rattle.buffers.specs.Replies.{refused, value, number}
+use Rattle.buffers.specs.declared.Refusal.the-variants.{NoSuchRow}
+use Rattle.layouts.specs.Kinds.{methodDef}
+use Rattle.classes.specs.declared.TypeDefRow.{TypeDefRow}
+use Rattle.record.specs.View.{View}
+use Rattle.record.specs.Names.{rowsIn}
+use Rattle.record.specs.Record.{method}
+use Rattle.record.specs.Answers.{theMethod}
+use Rattle.rows.specs.Layout.{rowsAt}
+use Rattle.listed.specs.declared.ClassRow.{ClassRow}
+use Rattle.listed.specs.declared.ClassRow.the-variants.{Row, NoRow}
+use Rattle.listed.specs.declared.MethodRow.{MethodRow}
+use Rattle.listed.specs.declared.MethodRow.the-variants.{Row as MethodAt, NoRow as NoMethod}
+
+-- Class c is at TypeDef row c + 2, where the table, by the layout l, has that row.
+pub data ClassRowIs (l : List ℕ) (c : ℕ) : ClassRow → Type 0 where
+  at-row : {r : TypeDefRow} → r .0 ≡ c + 2 → c + 2 ≤ rowsAt l 3 → ClassRowIs l c (Row r)
+  no-row : rowsAt l 3 < c + 2 → ClassRowIs l c NoRow
+
+-- Method m of class c is the method at a place of MethodDef, from 0; or there is none.
+pub data MethodRowIs (v : View) (c m : ℕ) : MethodRow → Type 0 where
+  at-method : {i : ℕ} → theMethod v c m ≡ value (method v i) → i < rowsIn v methodDef → MethodRowIs v c m (MethodAt i)
+  no-method : theMethod v c m ≡ refused (number NoSuchRow) → MethodRowIs v c m NoMethod

@@ -1,0 +1,137 @@
+-- The ways through the leaves: a class's strings, its name, and the class that a NestedClass row puts around it. Assumes nothing.
+use mathlib.Core.Path.{_≡_, refl, sym, ap, subst, _∙_}
+use mathlib.Core.Bool.{Bool, true, false, cond, _&&_}
+use mathlib.Core.List.{List}
+use mathlib.Core.Option.{Option, none, some}
+use Prim.Native.Nat.{ℕ, _+_, _-_, _≤_, _<_}
+use native.Mathlib.Omega.{arith}
+use borrow.Author.Tests.{eq-eqb, ne-eqb, lt-ltb, le-ltb}
+use lib.Dec.{eqb, ltb}
+use lib.ListN.{length, take, drop, length-drop}
+use lib.Seq.{length-take-le, take-take}
+use Rattle.numbers.specs.Parts.{part}
+use Rattle.buffers.specs.Texts.{Text}
+use Rattle.heaps.specs.Lookups.{before, stringAt, string}
+use Rattle.heaps.specs.declared.Absence.{Absence}
+use Rattle.heaps.specs.declared.Part.{Part}
+use Rattle.heaps.specs.declared.Part.the-variants.{Found, Absent}
+use Rattle.heaps.proofs.Lookups.{before-most, string-within, string-some, string-none}
+use Rattle.layouts.specs.Kinds.{typeDef}
+use Rattle.tables.specs.Extents.{sizesIn, keptRows}
+use Rattle.record.specs.Missing.{over, andThen}
+use Rattle.record.specs.Columns.{column, typeName}
+use Rattle.record.specs.Rows.{rowBytes}
+use Rattle.record.specs.Namespaces.{cut, classAt, nameOf}
+use Rattle.record.specs.View.{place, otherRow}
+use Rattle.layouts.specs.Read.{readColumn}
+use Rattle.rows.specs.Layout.{optionsIn, headerIn, rowsAt, cell, Laid}
+use Rattle.rows.proofs.Laws.{rows-at}
+use Rattle.names.specs.Naming.{nameText, NameInside, Shows, classString, nameIn, aroundIn}
+use Rattle.names.specs.declared.Name.{Name}
+use Rattle.names.specs.declared.Name.the-variants.{At, Missing}
+
+-- What is known of a name that was found.
+pub shown-at : {s : List ℕ} {d : Option Text} {p : Name} {start n : ℕ} → Shows s d p → p ≡ At start n → (d ≡ some (part s start n)) × (start + n ≤ length s)
+shown-at {s} h e = (sym (h .is) ∙ ap (nameText s) e, subst (NameInside s) e (h .inside))
+
+pub shown-missing : {s : List ℕ} {d : Option Text} {p : Name} → Shows s d p → p ≡ Missing → d ≡ none
+shown-missing {s} h e = sym (h .is) ∙ ap (nameText s) e
+
+-- A missing text.
+pub shows-none : {s : List ℕ} {d : Option Text} → d ≡ none → Shows s d Missing
+shows-none e = record { is = sym e; inside = tt }
+
+-- The string of a class, by the row that is asked for.
+module _ (t l strings : List ℕ) (c r : ℕ) where
+  pub class-low : r < 2 → Shows strings (classString t l strings c r) Missing
+  unfolding classString
+  class-low h = shows-none (rw (lt-ltb r 2 h))
+
+  module _ (laid : Laid t l) (k : c < 19) (e : readColumn c .kind ≡ typeDef) (h : 2 ≤ r) where
+    kept : rowsAt l c ≡ keptRows (optionsIn l) (headerIn t l) (length t) typeDef
+    kept = rows-at laid c k ∙ ap (keptRows (optionsIn l) (headerIn t l) (length t)) e
+
+    pub class-past : rowsAt l c < r → Shows strings (classString t l strings c r) Missing
+    unfolding classString otherRow
+    class-past p =
+        shows-none (rw (le-ltb r 2 h, le-ltb (r - 1) (keptRows (optionsIn l) (headerIn t l) (length t) typeDef) (omega (arith, kept))))
+
+    there : r ≤ rowsAt l c → classString t l strings c r ≡ string strings (cell t l c (r - 1))
+    unfolding classString otherRow
+    there p =
+        rw (le-ltb r 2 h, lt-ltb (r - 1) (keptRows (optionsIn l) (headerIn t l) (length t) typeDef) (omega (arith, kept)))
+        (ap (λ (j : ℕ). string strings (column j (readColumn c .place) (sizesIn (optionsIn l) (headerIn t l)) (rowBytes (place (optionsIn l) (headerIn t l) t j) t (r - 1)))) (sym e))
+
+    -- The string was looked up.
+    module _ (n : r ≤ rowsAt l c) {p : Part} (q : p ≡ stringAt strings (cell t l c (r - 1))) where
+      pub class-found : {start len : ℕ} → p ≡ Found start len → Shows strings (classString t l strings c r) (At start len)
+      class-found f =
+          let at = sym f ∙ q in
+          record { is = sym (there n ∙ string-some strings (cell t l c (r - 1)) at); inside = string-within strings (cell t l c (r - 1)) at }
+
+      pub class-absent : {why : Absence} → p ≡ Absent why → Shows strings (classString t l strings c r) Missing
+      class-absent f = shows-none (there n ∙ string-none strings (cell t l c (r - 1)) (sym f ∙ q))
+
+-- The name of a class is the string of its name column, cut at the first back-quote.
+module _ (t l strings : List ℕ) (r : ℕ) where
+  own-name : nameIn t l strings r ≡ over cut (classString t l strings 3 r)
+  unfolding nameIn nameOf classString
+  own-name = go (classAt (sizesIn (optionsIn l) (headerIn t l)) strings (otherRow (optionsIn l) (headerIn t l) t) r)
+    where
+      go : (o : Option (List ℕ))
+          → andThen o (λ bytes. over cut (string strings (typeName (sizesIn (optionsIn l) (headerIn t l)) bytes)))
+          ≡ over cut (andThen o (λ bytes. string strings (typeName (sizesIn (optionsIn l) (headerIn t l)) bytes)))
+      go none = refl
+      go (some bytes) = refl
+
+  pub own-missing : {p : Name} → Shows strings (classString t l strings 3 r) p → p ≡ Missing → Shows strings (nameIn t l strings r) Missing
+  own-missing s e = shows-none (own-name ∙ ap (over cut) (sym (s .is) ∙ ap (nameText strings) e))
+
+-- The part of a string up to its first back-quote.
+pub cut-part : (s : List ℕ) (start len n : ℕ) → start + len ≤ length s → n ≡ before 0x60 (part s start len)
+    → (cut (part s start len) ≡ part s start n) × (start + n ≤ length s)
+unfolding cut
+cut-part s start len n inside e =
+    let size = length-take-le len (drop start s) (omega (arith, length-drop start s)) in
+    let most = before-most 0x60 (part s start len) in
+    (ap (λ (k : ℕ). take k (part s start len)) (sym e) ∙ take-take n len (drop start s) (omega arith), omega arith)
+
+pub own-at : (t l strings : List ℕ) (r : ℕ) {p : Name} {start len n : ℕ} → Shows strings (classString t l strings 3 r) p → p ≡ At start len
+    → n ≡ before 0x60 (part strings start len) → Shows strings (nameIn t l strings r) (At start n)
+own-at t l strings r {start = start} {len} {n} s e f =
+    let short = cut-part strings start len n (subst (NameInside strings) e (s .inside)) f in
+    record {
+      is = sym (own-name t l strings r ∙ ap (over cut) (sym (s .is) ∙ ap (nameText strings) e) ∙ ap some (short .0));
+      inside = short .1;
+    }
+
+-- The class that a NestedClass row puts around another.
+module _ (t l : List ℕ) (i r : ℕ) where
+  abbrev acts : Bool
+  acts = ltb 1 (cell t l 15 i) && (ltb 1 (cell t l 16 i) && eqb r (cell t l 15 i))
+
+  nothing : acts ≡ false → none ≡ aroundIn t l i r
+  unfolding aroundIn
+  nothing e = rw e
+
+  pub around-low : cell t l 15 i < 2 → none ≡ aroundIn t l i r
+  around-low h = nothing (rw (le-ltb 1 (cell t l 15 i) (omega arith)))
+
+  pub around-other : (cell t l 15 i ≡ r → ⊥) → none ≡ aroundIn t l i r
+  around-other h = nothing (rw (ne-eqb r (cell t l 15 i) (λ e. h (sym e))) (go (ltb 1 (cell t l 15 i)) (ltb 1 (cell t l 16 i))))
+    where
+      go : (a b : Bool) → (a && (b && false)) ≡ false
+      go true true = refl
+      go true false = refl
+      go false b = refl
+
+  pub around-out : cell t l 16 i < 2 → none ≡ aroundIn t l i r
+  around-out h = nothing (rw (le-ltb 1 (cell t l 16 i) (omega arith)) (go (ltb 1 (cell t l 15 i))))
+    where
+      go : (a : Bool) → (a && false) ≡ false
+      go true = refl
+      go false = refl
+
+  pub around-in : 1 < cell t l 15 i → 1 < cell t l 16 i → cell t l 15 i ≡ r → some (cell t l 16 i) ≡ aroundIn t l i r
+  unfolding aroundIn
+  around-in h k e = rw (lt-ltb 1 (cell t l 15 i) h, lt-ltb 1 (cell t l 16 i) k, eq-eqb r (cell t l 15 i) (sym e))

@@ -1,0 +1,128 @@
+-- The loop of `lay`: the layout is filled from its front, four numbers in each turn. Assumes nothing.
+use mathlib.Core.Path.{_≡_, refl, sym, ap, _∙_}
+use mathlib.Core.Bool.{Bool, true, false, cond, _&&_, not}
+use mathlib.Core.Logic.{_≢_}
+use mathlib.Core.List.{List, [], _∷_, _++_, map}
+use Prim.Native.Nat.{ℕ, zero, suc, _+_, _*_, _≤_, _<_}
+use native.Mathlib.Nat.{not-suc-le-zero, le-of-suc-le-suc}
+use native.Mathlib.Omega.{arith}
+use borrow.Author.Count.{below-more}
+use borrow.Author.Tests.{eq-eqb, ne-eqb}
+use lib.Dec.{eqb}
+use lib.ListN.{length, getD, set, length-set, replicate}
+use lib.Seq.{ext-getD, getD-set-same, getD-set-other}
+use Rattle.header.specs.declared.Options.{Options}
+use Rattle.header.specs.declared.Header.{Header}
+use Rattle.layouts.specs.declared.IndexSizes.{IndexSizes}
+use Rattle.layouts.specs.Read.{Of, readColumns, readColumn, offsetIn, bytesIn}
+use Rattle.layouts.proofs.Reaches.{below}
+use Rattle.layouts.proofs.Codes.{made-at}
+use Rattle.tables.specs.Extents.{Walked, walkSays, walkReply, extent, onlyEntire, keptRows, sizesIn}
+use Rattle.tables.specs.declared.Extents.{Extents}
+use Rattle.rows.specs.Layout.{columnNumbers, allNumbers, layoutOf}
+
+-- The rows that are kept, by what the code tests.
+pub kept-entire : (k rows count : ℕ) → rows ≡ count → rows ≡ cond (onlyEntire k && not (eqb rows count)) 0 rows
+kept-entire k rows count e = rw (eq-eqb rows count e) (go (onlyEntire k))
+  where
+    go : (b : Bool) → rows ≡ cond (b && false) 0 rows
+    go true = refl
+    go false = refl
+
+pub kept-none : (k rows count : ℕ) {b : Bool} → rows ≢ count → b ≡ onlyEntire k → b ≡ true → 0 ≡ cond (onlyEntire k && not (eqb rows count)) 0 rows
+kept-none k rows count ne e f = rw (ne-eqb rows count ne, ← e, f)
+
+pub kept-others : (k rows count : ℕ) {b : Bool} → b ≡ onlyEntire k → b ≡ false → rows ≡ cond (onlyEntire k && not (eqb rows count)) 0 rows
+kept-others k rows count e f = rw (← e, f)
+
+-- The first m numbers of l are those of the layout `all`.
+pub record Filled (all l : List ℕ) (m : ℕ) : Type 0 where
+  pub long : length l ≡ 78
+  pub same : (j : ℕ) → j < m → getD l j 0 ≡ getD all j 0
+
+pub empty : (all : List ℕ) → Filled all (replicate 78 0) 0
+empty all = record { long = refl; same = λ j h. absurd (not-suc-le-zero h) }
+
+pub put : {all l : List ℕ} {m : ℕ} → Filled all l m → m < 78 → (v : ℕ) → v ≡ getD all m 0 → Filled all (set l m v) (m + 1)
+put {all} {l} {m} f h v e =
+    record {
+      long = simp length-set (f .long);
+      same =
+          below-more _ _ (λ j a. getD-set-other l m j v 0 (λ r. omega arith) ∙ f .same j a)
+          (getD-set-same l m v 0 (omega (arith, f .long)) ∙ e);
+    }
+
+pub turn : {all l : List ℕ} {c : ℕ} → Filled all l (4 * c) → c < 19 → {v0 v1 v2 v3 : ℕ}
+    → v0 ≡ getD all (4 * c) 0
+    → v1 ≡ getD all (4 * c + 1) 0
+    → v2 ≡ getD all (4 * c + 2) 0
+    → v3 ≡ getD all (4 * c + 3) 0
+    → Filled all (set (set (set (set l (4 * c) v0) (4 * c + 1) v1) (4 * c + 2) v2) (4 * c + 3) v3) (4 * (c + 1))
+turn {all} {l} {c} f h {v0} {v1} {v2} {v3} e0 e1 e2 e3 =
+    let a = put f (omega arith) v0 e0 in
+    let b = put a (omega arith) v1 e1 in
+    let p : 4 * c + 1 + 1 ≡ 4 * c + 2 = omega arith in
+    let d = put (rw p at b) (omega arith) v2 e2 in
+    let q : 4 * c + 2 + 1 ≡ 4 * c + 3 = omega arith in
+    let g = put (rw q at d) (omega arith) v3 e3 in
+    let r : 4 * c + 3 + 1 ≡ 4 * (c + 1) = omega arith in
+    rw r at g
+
+-- The table of a column has a number that an array of 64 has.
+pub kind-below : (c k : ℕ) → c < 19 → k ≡ readColumn c .kind → k < 64
+kind-below c k h e =
+    rw (e ∙ sym (made-at (λ x. x .kind) (readColumn 19) readColumns c 0 h)) (below (map (λ x. x .kind) readColumns) refl c)
+
+-- The first four of a list.
+front : (x0 x1 x2 x3 : ℕ) (ys : List ℕ) (d : ℕ) → d < 4 → getD (x0 ∷ x1 ∷ x2 ∷ x3 ∷ ys) d 0 ≡ getD (x0 ∷ x1 ∷ x2 ∷ x3 ∷ []) d 0
+front x0 x1 x2 x3 ys zero h = refl
+front x0 x1 x2 x3 ys (suc zero) h = refl
+front x0 x1 x2 x3 ys (suc (suc zero)) h = refl
+front x0 x1 x2 x3 ys (suc (suc (suc zero))) h = refl
+front x0 x1 x2 x3 ys (suc (suc (suc (suc d)))) h = absurd (omega arith)
+
+module _ (o : Options) (h : Header) (n : ℕ) where
+  number-at : (cs : List Of) (rest : List ℕ) (a : Of) (c d : ℕ) → c < length cs → d < 4
+      → getD (allNumbers o h n cs ++ rest) (4 * c + d) 0 ≡ getD (columnNumbers o h n (getD cs c a)) d 0
+  number-at [] rest a c d l k = absurd (not-suc-le-zero l)
+  number-at (x ∷ cs) rest a zero d l k =
+      let e : 4 * 0 + d ≡ d = omega arith in
+      rw e (front _ _ _ _ (allNumbers o h n cs ++ rest) d k)
+  number-at (x ∷ cs) rest a (suc c) d l k =
+      let e : 4 * suc c + d ≡ suc (suc (suc (suc (4 * c + d)))) = omega arith in
+      rw e (number-at cs rest a c d (le-of-suc-le-suc l) k)
+
+  layout-at : (c d : ℕ) → c < 19 → d < 4 → getD (layoutOf o h n) (4 * c + d) 0 ≡ getD (columnNumbers o h n (readColumn c)) d 0
+  unfolding layoutOf
+  layout-at c d l k = number-at readColumns (o .limit ∷ cond (o .security) 1 0 ∷ []) (readColumn 19) c d l k
+
+  -- All turns are done, and the options are stored.
+  pub whole : {l : List ℕ} {c v w : ℕ} → Filled (layoutOf o h n) l (4 * c) → c ≤ 19 → 19 ≤ c → v ≡ o .limit → w ≡ cond (o .security) 1 0
+      → set (set l 76 v) 77 w ≡ layoutOf o h n
+  unfolding layoutOf
+  whole {l} {c} {v} {w} f p q e g =
+      let z : 4 * c ≡ 76 = omega arith in
+      let a = put (put (rw z at f) (omega arith) v e) (omega arith) w g in
+      ext-getD 0 (set (set l 76 v) 77 w) (layoutOf o h n) (a .long) (λ k d. a .same k (omega (arith, a .long)))
+
+  -- The four numbers of a column, as the code has them.
+  module _ (r : Extents) (e : walkSays r ≡ walkReply o h n) (c k : ℕ) (l : c < 19) (ek : k ≡ readColumn c .kind) where
+    pub first-is : (w : IndexSizes) (f g : ℕ) → w ≡ sizesIn o h → f ≡ offsetIn w (readColumn c) → g ≡ f
+        → getD (r .starts) k 0 + g ≡ getD (layoutOf o h n) (4 * c) 0
+    unfolding extent
+    first-is w f g ew ef eg =
+        let z : 4 * c + 0 ≡ 4 * c = omega arith in
+        rw (ap (λ (w : Walked). w .starts) e, ek, eg, ef, ew) (sym (rw z at (layout-at c 0 l (omega arith))))
+
+    pub step-is : (s : ℕ) → s ≡ getD (r .sizes) k 0 → s ≡ getD (layoutOf o h n) (4 * c + 1) 0
+    unfolding extent
+    step-is s es = es ∙ rw (ap (λ (w : Walked). w .sizes) e, ek) (sym (layout-at c 1 l (omega arith)))
+
+    pub kept-is : (v : ℕ) → v ≡ cond (onlyEntire k && not (eqb (getD (r .rows) k 0) (getD (h .counts) k 0))) 0 (getD (r .rows) k 0)
+        → v ≡ getD (layoutOf o h n) (4 * c + 3) 0
+    unfolding extent keptRows
+    kept-is v ev = ev ∙ rw (ap (λ (w : Walked). w .rows) e, ek) (sym (layout-at c 3 l (omega arith)))
+
+  pub width-is : (c : ℕ) → c < 19 → (w : IndexSizes) (f g : ℕ) → w ≡ sizesIn o h → f ≡ bytesIn w (readColumn c) → g ≡ f
+      → g ≡ getD (layoutOf o h n) (4 * c + 2) 0
+  width-is c l w f g ew ef eg = eg ∙ ef ∙ ap (λ (v : IndexSizes). bytesIn v (readColumn c)) ew ∙ sym (layout-at c 2 l (omega arith))

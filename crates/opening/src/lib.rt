@@ -1,0 +1,130 @@
+// Opening a tables stream (ECMA-335 II.24.2.6): whether it is refused, and the layout by which its columns are read.
+use buffers::Refusal;
+use header::Opened;
+use header::Options;
+use rows::Layout;
+ghost use mathlib.Core.Path.{_≡_};
+ghost use mathlib.Core.Bool.{cond, _&&_, not};
+ghost use Prim.Native.Nat.{_≤_, _<_};
+ghost use lib.Dec.{eqb};
+ghost use Rattle.header.specs.declared.Opened.the-variants.{Refused, Ready};
+ghost use Rattle.tables.specs.Extents.{onlyEntire};
+ghost use Rattle.rows.specs.Layout.{layoutOf};
+ghost use Rattle.opening.specs.Opening.{OpenedAs};
+
+// The tables that are kept only entire.
+// II.22.38
+const TYPE_REF: usize = 0x01;
+// II.22.23
+const INTERFACE_IMPL: usize = 0x09;
+// II.22.25
+const MEMBER_REF: usize = 0x0A;
+// II.22.39
+const TYPE_SPEC: usize = 0x1B;
+
+// What opening a stream finds: whether it is refused, and the layout, zeros after a refusal.
+pub struct Opening {
+    pub answer: Opened,
+    pub layout: Layout,
+}
+
+fn wide(x: u32) -> usize
+    ensures { λ r. ⌜ (r ≡ x) × (r < 4294967296) ⌝ }
+{
+    x as usize
+}
+
+fn flag(b: bool) -> usize
+    ensures { λ r. ⌜ r ≡ cond b 1 0 ⌝ }
+{
+    if b {
+        return 1;
+    }
+    0
+}
+
+fn only_entire(kind: usize) -> bool
+    ensures { λ r. ⌜ r ≡ onlyEntire kind ⌝ }
+{
+    if kind == TYPE_REF {
+        return true;
+    }
+    if kind == INTERFACE_IMPL {
+        return true;
+    }
+    if kind == MEMBER_REF {
+        return true;
+    }
+    if kind == TYPE_SPEC {
+        return true;
+    }
+    false
+}
+
+// The rows of a table that are kept, where so many are whole and the table has a count.
+fn kept_rows(kind: usize, rows: u32, count: u32) -> usize
+    ensures { λ r. ⌜ r ≡ cond (onlyEntire kind && not (eqb rows count)) 0 rows ⌝ }
+{
+    if rows == count {
+        return wide(rows);
+    }
+    if only_entire(kind) {
+        return 0;
+    }
+    wide(rows)
+}
+
+// The layout of a stream of that length, opened with these options, with what its header says.
+fn lay(len: usize, first: usize, heap: u8, counts: &[u32; 64], options: Options) -> Layout
+    requires { ⌜ (first ≤ len) × (len < 9223372036854775808) ⌝ }
+    ensures { λ r. ⌜ (r ≡ layoutOf options (record { answer = Ready; heap = heap; first = first; counts = now (counts .entry) }) len) × (options .limit < 4294967296) ⌝ }
+{
+    let security = options.security;
+    let sizes = layouts::index_sizes(heap, counts, security);
+    let walk = tables::walk_tables(len, first, heap, counts, security);
+    let starts = walk.starts;
+    let steps = walk.sizes;
+    let rows = walk.rows;
+    let mut layout = [0usize; 78];
+    for c in 0..19 {
+        let kind = layouts::column_kind(c);
+        let offset = layouts::column_offset(sizes, c);
+        let width = layouts::column_width(sizes, c);
+        layout[4 * c] = starts[kind] + wide(offset);
+        layout[4 * c + 1] = wide(steps[kind]);
+        layout[4 * c + 2] = wide(width);
+        layout[4 * c + 3] = kept_rows(kind, rows[kind], counts[kind]);
+    }
+    layout[76] = wide(options.limit);
+    layout[77] = flag(security);
+    layout
+}
+
+fn refuse(why: Refusal) -> Opening
+    ensures { λ r. ⌜ r .answer ≡ Refused why ⌝ }
+{
+    Opening {
+        answer: Opened::Refused(why),
+        layout: [0; 78],
+    }
+}
+
+pub fn open(tables: &[u8], options: Options) -> Opening
+    ensures { λ r. ⌜ OpenedAs options (now (tables .entry)) (r .answer) (r .layout) ⌝ }
+{
+    let h = header::open_stream(tables, options);
+    let answer = h.answer;
+    let counts = h.counts;
+    let first = h.first;
+    let heap = h.heap;
+    match answer {
+        Opened::Refused(why) => refuse(why),
+        Opened::Ready => {
+            let layout = lay(tables.len(), first, heap, &counts, options);
+            Opening {
+                answer: Opened::Ready,
+                layout,
+            }
+        }
+    }
+}

@@ -1,0 +1,149 @@
+-- What a layout says: the four numbers of each column, and that a kept row's columns lie within the stream. Assumes nothing.
+use mathlib.Core.Path.{_≡_, refl, sym, ap, _∙_}
+use mathlib.Core.Bool.{Bool, true, cond, _&&_}
+use mathlib.Core.List.{List, [], _∷_, _++_}
+use Prim.Native.Nat.{ℕ, zero, suc, _+_, _*_, _≤_, _<_}
+use native.Mathlib.Nat.{le-of-suc-le-suc, not-suc-le-zero, mul-le-mul-right, suc-mul}
+use native.Mathlib.Omega.{arith}
+use mathlib.Core.Logic.{⊎-elim}
+use borrow.Author.Tests.{ltb-true}
+use denote.Ref.{RefT, now}
+use lib.Dec.{T, ltb, ltb→lt}
+use lib.ListN.{length, take, getD}
+use Rattle.numbers.specs.Fixed.{leAt}
+use Rattle.numbers.specs.Parts.{CutOf}
+use Rattle.numbers.proofs.Parts.{cut-is}
+use Rattle.buffers.specs.Replies.{number, refused, value, nameOr5, Named}
+use Rattle.buffers.specs.declared.Refusal.the-variants.{NoName}
+use Rattle.buffers.specs.declared.Reply.{Reply}
+use Rattle.heaps.specs.Lookups.{stringAt, string}
+use Rattle.heaps.specs.declared.Absence.{Absence}
+use Rattle.heaps.specs.declared.Part.{Part}
+use Rattle.heaps.specs.declared.Part.the-variants.{Found, Absent}
+use Rattle.heaps.proofs.Lookups.{string-within, string-some, string-none}
+use Rattle.header.specs.declared.Options.{Options}
+use Rattle.header.specs.declared.Header.{Header}
+use Rattle.layouts.specs.Columns.{tables, Two, columnsOf, widthIn, sumOf, rowSize}
+use Rattle.layouts.proofs.Reaches.{and-left, and-right}
+use Rattle.layouts.proofs.Facts.{two-or-four}
+use Rattle.tables.specs.Extents.{Extent, keptRows, sizesIn}
+use Rattle.tables.proofs.Places.{Stands, stands, few-rows}
+use Rattle.header.proofs.Cases.{few-counted}
+use Rattle.record.specs.Columns.{column}
+use Rattle.record.specs.Rows.{rowBytes}
+use Rattle.record.specs.View.{place}
+use Rattle.record.proofs.Read.{column-at, column-inside}
+use Rattle.record.proofs.Extents.{kept-le}
+use Rattle.layouts.specs.Read.{Of, readColumns, readColumn, offsetIn, bytesIn}
+use Rattle.rows.specs.Layout.{columnNumbers, allNumbers, layoutOf, optionsIn, headerIn, rowsAt, cell, Laid}
+
+-- The numbers of column c stand from 4 * c on.
+module _ (o : Options) (h : Header) (n : ℕ) where
+  numbers-at : (cs : List Of) (rest : List ℕ) (d₀ : Of) (c d : ℕ) → c < length cs → d < 4
+      → getD (allNumbers o h n cs ++ rest) (4 * c + d) 0 ≡ getD (columnNumbers o h n (getD cs c d₀)) d 0
+  numbers-at [] rest d₀ c d l m = absurd (not-suc-le-zero l)
+  numbers-at (x ∷ cs) rest d₀ zero zero l m = refl
+  numbers-at (x ∷ cs) rest d₀ zero (suc zero) l m = refl
+  numbers-at (x ∷ cs) rest d₀ zero (suc (suc zero)) l m = refl
+  numbers-at (x ∷ cs) rest d₀ zero (suc (suc (suc zero))) l m = refl
+  numbers-at (x ∷ cs) rest d₀ zero (suc (suc (suc (suc d)))) l m = absurd (omega arith)
+  numbers-at (x ∷ cs) rest d₀ (suc c) d l m =
+      let e : 4 * suc c + d ≡ suc (suc (suc (suc (4 * c + d)))) = omega arith in
+      rw e (numbers-at cs rest d₀ c d (le-of-suc-le-suc l) m)
+
+-- Every column that is read is a column of a known table: one test over all of them.
+abbrev known : List Of → Bool
+known [] = true
+known (c ∷ cs) = ltb (c .kind) 45 && (ltb (c .place) (length (columnsOf (c .kind))) && known cs)
+
+known-at : (cs : List Of) (d : Of) → T (known cs) → (c : ℕ) → c < length cs → (getD cs c d .kind < 45) × (getD cs c d .place < length (columnsOf (getD cs c d .kind)))
+known-at [] d t c l = absurd (not-suc-le-zero l)
+known-at (x ∷ cs) d t zero l =
+    let more = and-right (ltb (x .kind) 45) _ t in
+    (ltb→lt (x .kind) 45 (and-left (ltb (x .kind) 45) _ t), ltb→lt (x .place) _ (and-left (ltb (x .place) _) (known cs) more))
+known-at (x ∷ cs) d t (suc c) l =
+    known-at cs d (and-right (ltb (x .place) _) (known cs) (and-right (ltb (x .kind) 45) _ t)) c (le-of-suc-le-suc l)
+
+pub column-known : (c : ℕ) → c < 19 → (readColumn c .kind < 45) × (readColumn c .place < length (columnsOf (readColumn c .kind)))
+unfolding tables
+column-known c l = known-at readColumns _ tt c l
+
+-- What reading column c of row i relies on: the number lies within the stream, and is the column.
+pub record Reads (t l : List ℕ) (c i : ℕ) : Type 0 where
+  pub narrow : getD l (4 * c + 2) 0 ≤ 4
+  pub small : i * getD l (4 * c + 1) 0 ≤ length t
+  pub within : getD l (4 * c) 0 + i * getD l (4 * c + 1) 0 + getD l (4 * c + 2) 0 ≤ length t
+  pub is : leAt (getD l (4 * c + 2) 0) t (getD l (4 * c) 0 + i * getD l (4 * c + 1) 0) ≡ cell t l c i
+
+module _ {t l : List ℕ} (laid : Laid t l) where
+  abbrev o : Options
+  o = optionsIn l
+
+  abbrev h : Header
+  h = headerIn t l
+
+  number-at : (c d : ℕ) → c < 19 → d < 4 → getD l (4 * c + d) 0 ≡ getD (columnNumbers o h (length t) (readColumn c)) d 0
+  unfolding layoutOf
+  number-at c d k m = ap (λ (x : List ℕ). getD x (4 * c + d) 0) (laid .is) ∙ numbers-at o h (length t) readColumns (o .limit ∷ cond (o .security) 1 0 ∷ []) _ c d k m
+
+  first-at : (c : ℕ) → c < 19 → getD l (4 * c) 0 ≡ place o h t (readColumn c .kind) .start + offsetIn (sizesIn o h) (readColumn c)
+  first-at c k = let e : 4 * c ≡ 4 * c + 0 = omega arith in ap (λ (x : ℕ). getD l x 0) e ∙ number-at c 0 k (omega arith)
+
+  -- The kept rows of the table of column c.
+  pub rows-at : (c : ℕ) → c < 19 → rowsAt l c ≡ keptRows o h (length t) (readColumn c .kind)
+  rows-at c k = number-at c 3 k (omega arith)
+
+  pub reads : (c i : ℕ) → c < 19 → i < rowsAt l c → Reads t l c i
+  unfolding rowSize
+  reads c i k lt =
+      let a = first-at c k in
+      let b = number-at c 1 k (omega arith) in
+      let d = number-at c 2 k (omega arith) in
+      let r = rows-at c k in
+      let known = column-known c k in
+      let kept = kept-le o h (length t) (readColumn c .kind) in
+      let s = stands o h (length t) (readColumn c .kind) (known .0) (omega arith) in
+      let e : Extent = place o h t (readColumn c .kind) in
+      let all : suc i * e .size ≤ e .rows * e .size = mul-le-mul-right (e .size) (omega arith) in
+      let one = suc-mul i (e .size) in
+      let inside = column-inside (widthIn (sizesIn o h)) (columnsOf (readColumn c .kind)) (readColumn c .place) (known .1) in
+      let step : i * getD l (4 * c + 1) 0 ≡ i * e .size = ap (λ (x : ℕ). i * x) b in
+      let at : e .start + i * e .size + offsetIn (sizesIn o h) (readColumn c) ≡ getD l (4 * c) 0 + i * getD l (4 * c + 1) 0 = omega arith in
+      record {
+        narrow = ⊎-elim (λ w. omega arith) (λ w. omega arith)
+            (two-or-four (o .security) (h .heap) (h .counts) (getD (columnsOf (readColumn c .kind)) (readColumn c .place) Two));
+        small = omega (arith, s .within);
+        within = omega (arith, s .within, s .sized);
+        is =
+            rw d (ap (leAt (bytesIn (sizesIn o h) (readColumn c)) t) (sym at)
+            ∙ sym (column-at (readColumn c .kind) (readColumn c .place) (sizesIn o h) e t i (s .sized) (known .1)));
+      }
+
+-- A string that was looked up answers a call for a name.
+module _ {b b′ : List ℕ} {r : Reply} {p : Part} where
+  pub named-string : (s : RefT (List ℕ)) (i : ℕ) {start n : ℕ} {text : RefT (List ℕ)} → p ≡ stringAt (now s) i → p ≡ Found start n
+      → CutOf text s start n → Named (value (now text)) b r b′ → Named (nameOr5 (string (now s) i)) b r b′
+  named-string s i e f c n =
+      let at = sym f ∙ e in
+      rw (string-some (now s) i at, ← (cut-is _ s _ _ (string-within (now s) i at) c .bytes)) n
+
+  pub named-absent : (s : List ℕ) (i : ℕ) {why : Absence} → p ≡ stringAt s i → p ≡ Absent why
+      → Named (refused (number NoName)) b r b′ → Named (nameOr5 (string s i)) b r b′
+  named-absent s i e f n = rw (string-none s i (sym f ∙ e)) n
+
+-- Columns of one table have the same rows.
+pub same-rows : {t l : List ℕ} → Laid t l → (c d : ℕ) → c < 19 → d < 19 → readColumn c .kind ≡ readColumn d .kind → rowsAt l c ≡ rowsAt l d
+same-rows {t} {l} laid c d k m e = rows-at laid c k ∙ ap (keptRows (optionsIn l) (headerIn t l) (length t)) e ∙ sym (rows-at laid d m)
+
+-- No table has more rows than 32 bits can say.
+pub rows-narrow : {t l : List ℕ} → Laid t l → (c : ℕ) → c < 19 → rowsAt l c < 4_294_967_296
+rows-narrow {t} {l} laid c k =
+    let kind : readColumn c .kind < 64 = omega (arith, column-known c k .0) in
+    omega (
+      arith,
+      laid .narrow,
+      rows-at laid c k,
+      kept-le (optionsIn l) (headerIn t l) (length t) (readColumn c .kind),
+      few-rows (optionsIn l) (headerIn t l) (length t) (readColumn c .kind) kind,
+      few-counted (optionsIn l) t (readColumn c .kind) kind,
+    )

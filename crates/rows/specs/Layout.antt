@@ -1,0 +1,62 @@
+-- The layout: the numbers by which code reads the columns of the record's tables (ECMA-335 II.22) on demand. Opening makes it once, by
+-- what the walk found; the code has it as an array.
+use mathlib.Core.Path.{_≡_}
+use mathlib.Core.Bool.{cond}
+use mathlib.Core.List.{List, [], _∷_, _++_}
+use Prim.Native.Nat.{ℕ, _+_, _*_, _<_}
+use lib.Dec.{eqb}
+use lib.ListN.{length, getD}
+use Rattle.header.specs.Opening.{opened}
+use Rattle.header.specs.declared.Options.{Options}
+use Rattle.header.specs.declared.Header.{Header}
+use Rattle.header.specs.declared.Opened.the-variants.{Ready}
+use Rattle.layouts.specs.Read.{Of, readColumns, readColumn, offsetIn, bytesIn}
+use Rattle.tables.specs.Extents.{extent, keptRows, sizesIn}
+use Rattle.record.specs.Columns.{column}
+use Rattle.record.specs.Rows.{rowBytes}
+use Rattle.record.specs.View.{View, view, place}
+
+-- By the options, what opening found, and the length of the tables stream:
+module _ (o : Options) (h : Header) (n : ℕ) where
+  -- The four numbers of a column: where it stands in the table's first row, how far it is to the next row, its bytes, and how many
+  -- rows are kept.
+  abbrev pub columnNumbers : Of → List ℕ
+  columnNumbers c =
+      let e = extent o h n (c .kind) in
+      (e .start + offsetIn (sizesIn o h) c) ∷ e .size ∷ bytesIn (sizesIn o h) c ∷ keptRows o h n (c .kind) ∷ []
+
+  -- Those of columns, one after the other.
+  abbrev pub allNumbers : List Of → List ℕ
+  allNumbers [] = []
+  allNumbers (c ∷ cs) = columnNumbers c ++ allNumbers cs
+
+  -- The layout: the numbers of all columns that are read, and the options, which say how the stream was opened.
+  unfoldable pub layoutOf : List ℕ
+  layoutOf = allNumbers readColumns ++ (o .limit ∷ cond (o .security) 1 0 ∷ [])
+
+-- What the layout l of a tables stream t says. The options:
+unfoldable pub optionsIn : List ℕ → Options
+optionsIn l = record { limit = getD l 76 0; security = eqb (getD l 77 0) 1 }
+
+-- the kept rows of the table that column c is of,
+abbrev pub rowsAt : List ℕ → ℕ → ℕ
+rowsAt l c = getD l (4 * c + 3) 0
+
+abbrev pub headerIn : List ℕ → List ℕ → Header
+headerIn t l = opened (optionsIn l) t
+
+-- and the number that stands in column c of row i, from 0, of its table.
+abbrev pub cell : List ℕ → List ℕ → ℕ → ℕ → ℕ
+cell t l c i =
+    column (readColumn c .kind) (readColumn c .place) (sizesIn (optionsIn l) (headerIn t l))
+    (rowBytes (place (optionsIn l) (headerIn t l) t (readColumn c .kind)) t i)
+
+-- l is the layout of the tables stream t, which was opened and not refused. The limit of rows, an option, has 32 bits.
+pub record Laid (t l : List ℕ) : Type 0 where
+  pub ready : headerIn t l .answer ≡ Ready
+  pub narrow : optionsIn l .limit < 4_294_967_296
+  pub is : l ≡ layoutOf (optionsIn l) (headerIn t l) (length t)
+
+-- The view of a stream by its layout.
+abbrev pub viewIn : List ℕ → List ℕ → List ℕ → List ℕ → View
+viewIn t l strings blob = view (optionsIn l) t strings blob

@@ -1,0 +1,40 @@
+// The numbers of the columns that are read, in a layout (specs/Layout.antt, `readColumns`).
+
+// TypeRef, II.22.38
+pub const REF_NAME: usize = 0;
+
+pub const REF_NAMESPACE: usize = 1;
+// TypeDef, II.22.37
+pub const TYPE_FLAGS: usize = 2;
+
+pub const TYPE_NAME: usize = 3;
+
+pub const TYPE_NAMESPACE: usize = 4;
+
+pub const EXTENDS: usize = 5;
+
+pub const METHOD_LIST: usize = 6;
+// MethodDef, II.22.26
+pub const METHOD_FLAGS: usize = 7;
+
+pub const METHOD_NAME: usize = 8;
+
+pub const METHOD_SIGNATURE: usize = 9;
+
+pub const PARAM_LIST: usize = 10;
+// Param, II.22.33
+pub const PARAM_NAME: usize = 11;
+// InterfaceImpl, II.22.23
+pub const IMPL_CLASS: usize = 12;
+
+pub const IMPL_INTERFACE: usize = 13;
+// TypeSpec, II.22.39
+pub const SPEC_SIGNATURE: usize = 14;
+// NestedClass, II.22.32
+pub const NESTED: usize = 15;
+
+pub const ENCLOSING: usize = 16;
+// GenericParam, II.22.20
+pub const OWNER: usize = 17;
+
+pub const GENERIC_NAME: usize = 18;

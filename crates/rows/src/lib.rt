@@ -1,0 +1,66 @@
+// The rows of the tables (ECMA-335 II.22), read on demand: a column of a row, by the layout that opening made.
+pub mod columns;
+
+use buffers::Refusal;
+use buffers::Reply;
+use heaps::Part;
+ghost use mathlib.Core.Path.{_≡_};
+ghost use Prim.Native.Nat.{_<_};
+ghost use Rattle.buffers.specs.Replies.{nameOr5, Named};
+ghost use Rattle.heaps.specs.Lookups.{stringAt, string};
+ghost use Rattle.rows.specs.Layout.{Laid, rowsAt, cell};
+
+// Four numbers for each of the 19 columns that are read, and the two options.
+pub type Layout = [usize; 78];
+
+// How many rows of the table of a column are kept.
+pub fn count_rows(layout: &Layout, column: usize) -> usize
+    requires { ⌜ column < 19 ⌝ }
+    ensures { λ r. ⌜ r ≡ rowsAt (now (layout .entry)) column ⌝ }
+{
+    layout[4 * column + 3]
+}
+
+// The number in a column of row i, from 0.
+pub fn read_column(tables: &[u8], layout: &Layout, column: usize, i: usize) -> u32
+    requires { ⌜ Laid (now tables) (now layout) ⌝ }
+    requires { ⌜ (column < 19) × (i < rowsAt (now layout) column) ⌝ }
+    ensures { λ r. ⌜ r ≡ cell (now (tables .entry)) (now (layout .entry)) column i ⌝ }
+{
+    let first = layout[4 * column];
+    let step = layout[4 * column + 1];
+    let width = layout[4 * column + 2];
+    numbers::read_word(tables, first + i * step, width)
+}
+
+// The string that it finds.
+pub fn read_string(tables: &[u8], strings: &[u8], layout: &Layout, column: usize, i: usize) -> Part
+    requires { ⌜ Laid (now tables) (now layout) ⌝ }
+    requires { ⌜ (column < 19) × (i < rowsAt (now layout) column) ⌝ }
+    ensures { λ r. ⌜ r ≡ stringAt (now (strings .entry)) (cell (now (tables .entry)) (now (layout .entry)) column i) ⌝ }
+{
+    let index = read_column(tables, layout, column, i);
+    heaps::get_string(strings, index as usize)
+}
+
+// Answer a call for a name by that string.
+pub fn write_string(
+    buf: &mut [u8],
+    tables: &[u8],
+    strings: &[u8],
+    layout: &Layout,
+    column: usize,
+    i: usize,
+) -> Reply
+    requires { ⌜ Laid (now tables) (now layout) ⌝ }
+    requires { ⌜ (column < 19) × (i < rowsAt (now layout) column) ⌝ }
+    ensures { λ r. ⌜ Named (nameOr5 (string (now (strings .entry)) (cell (now (tables .entry)) (now (layout .entry)) column i))) (now (buf .entry)) r (now (buf .exit)) ⌝ }
+{
+    match read_string(tables, strings, layout, column, i) {
+        Part::Found { start, len } => {
+            let text = numbers::cut(strings, start, len);
+            buffers::write_name(buf, text)
+        }
+        Part::Absent(_) => buffers::refuse(buf, Refusal::NoName),
+    }
+}

@@ -1,0 +1,53 @@
+use mathlib.Core.Path.{_≡_, _∙_}
+use Rattle.header.proofs.Cases.{first-within}
+use Rattle.tables.proofs.Outcome.{is-refused, is-walked}
+use borrow.Author.Needs.{needs}
+use Rattle.walks.proofs.walk_with.Statement.{statement}
+use Rattle.walks.proofs.walk_with.Tie as tie
+use Rattle.walks.proofs.walk_with.Reads as reads
+use Rattle.walks.proofs.walk_with.Lts as lts
+use Rattle.header.proofs.open_stream.Reads as open-stream-reads
+use Rattle.tables.proofs.refused_extents.Reads as refused-extents-reads
+use Rattle.tables.proofs.walk_tables.Reads as walk-tables-reads
+
+-- src/lib.rt:14:9
+open-stream-requires : tie.Need-open-stream-requires
+open-stream-requires c κs = search needs
+
+-- src/lib.rt:21:25
+enum-known-answer : tie.Need-enum-known-answer
+enum-known-answer c = search needs
+
+-- src/lib.rt:21:33
+refused-extents-requires : tie.Need-refused-extents-requires
+refused-extents-requires c κs = search needs
+
+-- src/lib.rt:22:46
+enum-told : tie.Need-enum-told
+enum-told c = search needs
+
+-- src/lib.rt:22:26
+walk-tables-requires : tie.Need-walk-tables-requires
+walk-tables-requires c κs = rw (c .before .before .before .before .open-stream .ensures) (first-within _ _)
+
+-- src/lib.rt:11:1
+returns : tie.Need-returns
+returns c =
+    let a = c .before .before in
+    c .refused-extents .ensures ∙ is-refused _ _ _ _ (a .before .before .before .open-stream .ensures) (a .answer .given .1)
+
+-- src/lib.rt:11:1
+returns-2 : tie.Need-returns-2
+returns-2 c = c .walk-tables .ensures ∙ is-walked _ _ _ (c .before .before .before .before .before .open-stream .ensures) (c .before .before .enum-told .given .1)
+
+pub walk-with-spec : {M : Type 1} → statement M
+walk-with-spec =
+    tie.close
+    (tie.spec
+    open-stream-requires
+    enum-known-answer
+    refused-extents-requires
+    enum-told
+    walk-tables-requires
+    returns
+    returns-2)
