@@ -52,9 +52,9 @@ pub fn class_flags(
 ) -> Reply
     ensures { λ r. ⌜ Numbered (classFlags (view options (now (tables .entry)) (now (strings .entry)) (now (blob .entry))) (class .0)) r ⌝ }
 {
-    let opening = opening::open(tables, options);
-    let answer = opening.answer;
-    let layout = opening.layout;
+    let opened = opening::open(tables, options);
+    let answer = opened.answer;
+    let layout = opened.layout;
     match answer {
         Opened::Refused(why) => Reply::No(why),
         Opened::Ready => flags_of(tables, &layout, class),
@@ -93,9 +93,9 @@ pub fn class_name(
 ) -> Reply
     ensures { λ r. ⌜ Named (className (view options (now (tables .entry)) (now (strings .entry)) (now (blob .entry))) (class .0)) (now (buf .entry)) r (now (buf .exit)) ⌝ }
 {
-    let opening = opening::open(tables, options);
-    let answer = opening.answer;
-    let layout = opening.layout;
+    let opened = opening::open(tables, options);
+    let answer = opened.answer;
+    let layout = opened.layout;
     match answer {
         Opened::Refused(why) => buffers::refuse(buf, why),
         Opened::Ready => write_name_of(buf, tables, strings, &layout, class),

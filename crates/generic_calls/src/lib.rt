@@ -35,9 +35,9 @@ pub fn generic_count(
 ) -> Reply
     ensures { λ r. ⌜ Numbered (genericCount (view options (now (tables .entry)) (now (strings .entry)) (now (blob .entry))) (class .0)) r ⌝ }
 {
-    let opening = opening::open(tables, options);
-    let answer = opening.answer;
-    let layout = opening.layout;
+    let opened = opening::open(tables, options);
+    let answer = opened.answer;
+    let layout = opened.layout;
     match answer {
         Opened::Refused(why) => Reply::No(why),
         Opened::Ready => count_of(tables, &layout, class),
@@ -76,9 +76,9 @@ pub fn generic_name(
 ) -> Reply
     ensures { λ r. ⌜ Named (genericName (view options (now (tables .entry)) (now (strings .entry)) (now (blob .entry))) (class .0) g) (now (buf .entry)) r (now (buf .exit)) ⌝ }
 {
-    let opening = opening::open(tables, options);
-    let answer = opening.answer;
-    let layout = opening.layout;
+    let opened = opening::open(tables, options);
+    let answer = opened.answer;
+    let layout = opened.layout;
     match answer {
         Opened::Refused(why) => buffers::refuse(buf, why),
         Opened::Ready => write_name_of(buf, tables, strings, &layout, class, g),

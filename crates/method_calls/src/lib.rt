@@ -38,9 +38,9 @@ pub fn method_count(
 ) -> Reply
     ensures { λ r. ⌜ Numbered (methodCount (view options (now (tables .entry)) (now (strings .entry)) (now (blob .entry))) (class .0)) r ⌝ }
 {
-    let opening = opening::open(tables, options);
-    let answer = opening.answer;
-    let layout = opening.layout;
+    let opened = opening::open(tables, options);
+    let answer = opened.answer;
+    let layout = opened.layout;
     match answer {
         Opened::Refused(why) => Reply::No(why),
         Opened::Ready => count_of(tables, &layout, class),
@@ -71,9 +71,9 @@ pub fn method_flags(
 ) -> Reply
     ensures { λ r. ⌜ Numbered (methodFlags (view options (now (tables .entry)) (now (strings .entry)) (now (blob .entry))) (class .0) m) r ⌝ }
 {
-    let opening = opening::open(tables, options);
-    let answer = opening.answer;
-    let layout = opening.layout;
+    let opened = opening::open(tables, options);
+    let answer = opened.answer;
+    let layout = opened.layout;
     match answer {
         Opened::Refused(why) => Reply::No(why),
         Opened::Ready => flags_of(tables, &layout, class, m),
@@ -111,9 +111,9 @@ pub fn method_name(
 ) -> Reply
     ensures { λ r. ⌜ Named (methodName (view options (now (tables .entry)) (now (strings .entry)) (now (blob .entry))) (class .0) m) (now (buf .entry)) r (now (buf .exit)) ⌝ }
 {
-    let opening = opening::open(tables, options);
-    let answer = opening.answer;
-    let layout = opening.layout;
+    let opened = opening::open(tables, options);
+    let answer = opened.answer;
+    let layout = opened.layout;
     match answer {
         Opened::Refused(why) => buffers::refuse(buf, why),
         Opened::Ready => write_name_of(buf, tables, strings, &layout, class, m),

@@ -34,9 +34,9 @@ pub fn method_generic_count(
 ) -> Reply
     ensures { λ r. ⌜ Numbered (methodGenericCount (view options (now (tables .entry)) (now (strings .entry)) (now (blob .entry))) (class .0) m) r ⌝ }
 {
-    let opening = opening::open(tables, options);
-    let answer = opening.answer;
-    let layout = opening.layout;
+    let opened = opening::open(tables, options);
+    let answer = opened.answer;
+    let layout = opened.layout;
     match answer {
         Opened::Refused(why) => Reply::No(why),
         Opened::Ready => count_of(tables, &layout, class, m),
@@ -77,9 +77,9 @@ pub fn method_generic_name(
 ) -> Reply
     ensures { λ r. ⌜ Named (methodGenericName (view options (now (tables .entry)) (now (strings .entry)) (now (blob .entry))) (class .0) m g) (now (buf .entry)) r (now (buf .exit)) ⌝ }
 {
-    let opening = opening::open(tables, options);
-    let answer = opening.answer;
-    let layout = opening.layout;
+    let opened = opening::open(tables, options);
+    let answer = opened.answer;
+    let layout = opened.layout;
     match answer {
         Opened::Refused(why) => buffers::refuse(buf, why),
         Opened::Ready => write_name_of(buf, tables, strings, &layout, class, m, g),

@@ -13,7 +13,7 @@ use Rattle.numbers.proofs.Reading.{Ahead, Onward, give-onward, fail-onward, byt
 use Rattle.numbers.proofs.Compressed.{uint-onward, sint-onward}
 use Rattle.buffers.specs.Texts.{Text}
 use Rattle.record.specs.Readings.{known, typeByte, attempt, times}
-use Rattle.record.specs.Types.{Env, look, typeFullName, aside, counted, methodStart, arguments, shown, parameters, around, classType, generic, array, modified, instance, fnPtr, form, within, type}
+use Rattle.record.specs.Types.{Env, look, typeFullName, aside, counted, methodStart, arguments, shown, parameters, around, classType, generic, shape, array, modified, instance, fnPtr, form, within, type}
 
 stay : (s : List ℕ) (at : ℕ) → Ahead s at at
 stay s at = record { from = le-refl at; within = λ h. h }
@@ -64,10 +64,14 @@ unfolding look
 look-onward b none-left g = g
 look-onward b (and-row {k = k} f r) g = cond-onward (eqb b k) f (look-onward b r g)
 
+shape-onward : Onward shape
+unfolding shape
+shape-onward = bind-onward uint-onward (λ r. bind-onward uint-onward (λ n. bind-onward (times-onward n uint-onward) (λ ks.
+    bind-onward uint-onward (λ m. bind-onward (times-onward m sint-onward) (λ ls. give-onward _)))))
+
 array-onward : {p : Reader Text} → Onward p → Onward (array p)
 unfolding array
-array-onward f = bind-onward f (λ t. bind-onward uint-onward (λ r. bind-onward uint-onward (λ n. bind-onward (times-onward n uint-onward) (λ ks.
-    bind-onward uint-onward (λ m. bind-onward (times-onward m sint-onward) (λ ls. give-onward _))))))
+array-onward f = bind-onward f (λ t. bind-onward shape-onward (λ d. give-onward _))
 
 around-onward : (u v : Text) {p : Reader Text} → Onward p → Onward (around u v p)
 unfolding around

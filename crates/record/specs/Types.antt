@@ -135,16 +135,22 @@ fnPtr deeper = do
   ts ← parameters n 0 deeper
   give (q "FnPtr<" ++ t ++ q "(" ++ ts ++ q ")>")
 
--- 0x14, II.23.2.13: a type, the rank, the sizes, the lower bounds.
-unfoldable pub array : Reader Text → Reader Text
-array deeper = do
-  t ← deeper
+-- II.23.2.13, ArrayShape: the rank, the sizes, the lower bounds.
+unfoldable pub shape : Reader Text
+shape = do
   rank ← uint
   n ← uint
   sizes ← times n uint
   m ← uint
   bounds ← times m sint
-  give (t ++ q "[" ++ dims rank 0 sizes bounds ++ q "]")
+  give (q "[" ++ dims rank 0 sizes bounds ++ q "]")
+
+-- 0x14: a type and the shape of an array of it.
+unfoldable pub array : Reader Text → Reader Text
+array deeper = do
+  t ← deeper
+  d ← shape
+  give (t ++ d)
 
 -- 0x1F, 0x20, II.23.2.7: a modifier is passed over.
 unfoldable pub modified : Reader Text → Reader Text

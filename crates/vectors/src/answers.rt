@@ -7,6 +7,7 @@ use buffers::push_decimal;
 use buffers::put;
 use buffers::refusal_number;
 use buffers::write_name;
+use case_text::low_bits;
 use check::same;
 use heaps::Heap;
 use heaps::Part;
@@ -95,10 +96,6 @@ fn push_sint(out: &mut [u8], came: Sint) -> usize {
             push_next(out, at, next)
         }
     }
-}
-
-fn low_bits(n: usize) -> u32 {
-    (n % 4_294_967_296) as u32
 }
 
 fn push_next(out: &mut [u8], at: usize, next: usize) -> usize {

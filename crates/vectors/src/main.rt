@@ -5,7 +5,6 @@
 ghost use Prim.Native.Nat.{_≤_};
 
 mod answers;
-mod fields;
 mod walk_text;
 
 fn write(text: &[u8]) {
@@ -28,16 +27,16 @@ fn write_wrong(line: &[u8], came: &[u8]) {
 
 // Whether the case agrees.
 fn run_case(line: &[u8], loud: bool) -> bool {
-    let kind = fields::first(line);
-    let after_kind = fields::after(line, kind.len());
-    let hex = fields::first(after_kind);
-    let after_bytes = fields::after(after_kind, hex.len());
-    let digits = fields::first(after_bytes);
-    let after_number = fields::after(after_bytes, digits.len());
-    let expected = fields::after(after_number, 1);
+    let kind = case_text::first(line);
+    let after_kind = case_text::after(line, kind.len());
+    let hex = case_text::first(after_kind);
+    let after_bytes = case_text::after(after_kind, hex.len());
+    let digits = case_text::first(after_bytes);
+    let after_number = case_text::after(after_bytes, digits.len());
+    let expected = case_text::after(after_number, 1);
     let mut bytes = [0u8; 256];
-    let n = fields::read_hex(hex, &mut bytes);
-    let number = fields::read_decimal(digits);
+    let n = case_text::read_hex(hex, &mut bytes);
+    let number = case_text::read_decimal(digits);
     let mut space = [0u8; 256];
     let m = answers::push_answer(&mut space, kind, numbers::cut(&bytes, 0, n), number);
     let came = numbers::cut(&space, 0, m);

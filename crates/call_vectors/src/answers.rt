@@ -1,0 +1,256 @@
+// One recorded answer, `CALL NUMBERS = ANSWER`: the call is asked, and all that it hands back compared. The answer is a number, a name
+// in hex, or `!` and the number of a refusal. A name is asked for with buffers of every length up to two more than its own, a name
+// that is refused with those of up to four bytes; each buffer holds 0xAA before.
+use buffers::Refusal;
+use buffers::Reply;
+use buffers::refusal_number;
+use case_text::after;
+use case_text::first;
+use case_text::read_decimal;
+use check::same;
+use classes::ClassNumber;
+use header::base_options;
+
+// The numbers of a line: a class; its method, or its generic parameter; a generic parameter of that method. Those that a call does
+// not take count for nothing.
+struct Asked {
+    class: ClassNumber,
+    member: u32,
+    generic: u32,
+}
+
+pub fn agrees(line: &[u8], tables: &[u8], strings: &[u8], blob: &[u8]) -> bool {
+    let call = first(line);
+    let asked = asked_in(after(line, call.len()));
+    let equals = heaps::find_byte(line, 0, b'=');
+    let answer = after(after(line, equals), 0);
+    if is_of_name(call) {
+        return name_agrees(call, tables, strings, blob, asked, answer);
+    }
+    number_agrees(ask_number(call, tables, strings, blob, asked), answer)
+}
+
+fn asked_in(numbers: &[u8]) -> Asked {
+    let class = first(numbers);
+    let after_class = after(numbers, class.len());
+    let member = first(after_class);
+    let after_member = after(after_class, member.len());
+    let generic = first(after_member);
+    Asked {
+        class: ClassNumber(read_u32(class)),
+        member: read_u32(member),
+        generic: read_u32(generic),
+    }
+}
+
+fn read_u32(digits: &[u8]) -> u32 {
+    case_text::low_bits(read_decimal(digits))
+}
+
+fn is_of_name(call: &[u8]) -> bool {
+    if call.len() < 5 {
+        return false;
+    }
+    same(numbers::cut(call, call.len() - 5, 5), b"_name")
+}
+
+// 8 answers a call that there is not.
+fn ask_number(call: &[u8], tables: &[u8], strings: &[u8], blob: &[u8], asked: Asked) -> Reply {
+    let class = asked.class;
+    let m = asked.member;
+    if same(call, b"class_count") {
+        return class_calls::class_count(tables, strings, blob, base_options());
+    }
+    if same(call, b"class_flags") {
+        return class_calls::class_flags(tables, strings, blob, base_options(), class);
+    }
+    if same(call, b"generic_count") {
+        return generic_calls::generic_count(tables, strings, blob, base_options(), class);
+    }
+    if same(call, b"method_count") {
+        return method_calls::method_count(tables, strings, blob, base_options(), class);
+    }
+    if same(call, b"method_flags") {
+        return method_calls::method_flags(tables, strings, blob, base_options(), class, m);
+    }
+    if same(call, b"method_generic_count") {
+        return method_generic_calls::method_generic_count(
+            tables,
+            strings,
+            blob,
+            base_options(),
+            class,
+            m,
+        );
+    }
+    Reply::No(Refusal::BadInput)
+}
+
+fn ask_name(
+    call: &[u8],
+    tables: &[u8],
+    strings: &[u8],
+    blob: &[u8],
+    asked: Asked,
+    buf: &mut [u8],
+) -> Reply {
+    let class = asked.class;
+    let m = asked.member;
+    let g = asked.generic;
+    if same(call, b"class_name") {
+        return class_calls::class_name(tables, strings, blob, base_options(), class, buf);
+    }
+    if same(call, b"generic_name") {
+        return generic_calls::generic_name(tables, strings, blob, base_options(), class, m, buf);
+    }
+    if same(call, b"method_name") {
+        return method_calls::method_name(tables, strings, blob, base_options(), class, m, buf);
+    }
+    if same(call, b"method_generic_name") {
+        return method_generic_calls::method_generic_name(
+            tables,
+            strings,
+            blob,
+            base_options(),
+            class,
+            m,
+            g,
+            buf,
+        );
+    }
+    Reply::No(Refusal::BadInput)
+}
+
+// The refusal that an answer holds, or 0.
+fn refusal_in(answer: &[u8]) -> usize {
+    if answer.len() == 0 {
+        return 0;
+    }
+    if answer[0] != b'!' {
+        return 0;
+    }
+    read_decimal(answer)
+}
+
+fn number_agrees(came: Reply, answer: &[u8]) -> bool {
+    let refusal = refusal_in(answer);
+    match came {
+        Reply::Is(n) => {
+            if refusal != 0 {
+                return false;
+            }
+            n == read_decimal(answer)
+        }
+        Reply::No(why) => (refusal_number(why) as usize) == refusal,
+    }
+}
+
+fn name_agrees(
+    call: &[u8],
+    tables: &[u8],
+    strings: &[u8],
+    blob: &[u8],
+    asked: Asked,
+    answer: &[u8],
+) -> bool {
+    let refusal = refusal_in(answer);
+    if refusal != 0 {
+        return rooms_agree(call, tables, strings, blob, asked, refusal, b"", 4);
+    }
+    let mut space = [0u8; 16384];
+    let n = case_text::read_hex(answer, &mut space);
+    let name = numbers::cut(&space, 0, n);
+    rooms_agree(call, tables, strings, blob, asked, 0, name, name.len() + 2)
+}
+
+// Whether a name, or the refusal of one, is answered right in buffers of up to so many bytes.
+fn rooms_agree(
+    call: &[u8],
+    tables: &[u8],
+    strings: &[u8],
+    blob: &[u8],
+    asked: Asked,
+    refusal: usize,
+    name: &[u8],
+    last: usize,
+) -> bool {
+    if 16_384 < last {
+        return false;
+    }
+    let mut room = 0;
+    while room <= last {
+        if !room_agrees(call, tables, strings, blob, asked, refusal, name, room) {
+            return false;
+        }
+        room += 1;
+    }
+    true
+}
+
+fn room_agrees(
+    call: &[u8],
+    tables: &[u8],
+    strings: &[u8],
+    blob: &[u8],
+    asked: Asked,
+    refusal: usize,
+    name: &[u8],
+    room: usize,
+) -> bool {
+    let mut space = [0xAAu8; 16384];
+    let came = ask_in(&mut space, room, call, tables, strings, blob, asked);
+    reply_agrees(came, refusal, name, numbers::cut(&space, 0, room))
+}
+
+fn ask_in(
+    buffer: &mut [u8],
+    room: usize,
+    call: &[u8],
+    tables: &[u8],
+    strings: &[u8],
+    blob: &[u8],
+    asked: Asked,
+) -> Reply {
+    if buffer.len() < room {
+        return Reply::No(Refusal::BadInput);
+    }
+    ask_name(call, tables, strings, blob, asked, &mut buffer[..room])
+}
+
+fn reply_agrees(came: Reply, refusal: usize, name: &[u8], buffer: &[u8]) -> bool {
+    let expected = refusal_in_room(refusal, name, buffer.len());
+    match came {
+        Reply::Is(n) => {
+            if expected != 0 {
+                return false;
+            }
+            if n != name.len() {
+                return false;
+            }
+            same(numbers::cut(buffer, 0, n), name) && is_zero_from(buffer, n)
+        }
+        Reply::No(why) => (refusal_number(why) as usize) == expected && is_zero_from(buffer, 0),
+    }
+}
+
+// 6 where a name exists and has no room.
+fn refusal_in_room(refusal: usize, name: &[u8], room: usize) -> usize {
+    if refusal != 0 {
+        return refusal;
+    }
+    if room < name.len() {
+        return 6;
+    }
+    0
+}
+
+fn is_zero_from(buffer: &[u8], from: usize) -> bool {
+    let mut i = from;
+    while i < buffer.len() {
+        if buffer[i] != 0 {
+            return false;
+        }
+        i += 1;
+    }
+    true
+}

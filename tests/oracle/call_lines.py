@@ -1,0 +1,147 @@
+"""What the program call_vectors reads: blocks of three streams and the answers of the public calls, made of the oracle's record."""
+
+import sys
+
+from asking import Oracle, streams
+from assembly import METHOD_DEF, TYPE_DEF, bundle
+
+# A longer name is left out: the program's buffer has two bytes more.
+LONGEST = 16382
+NO_ROW, NAMELESS = "!4", "!5"
+LAST = 0xFFFFFFFF
+
+
+class Records:
+    """The Rust's records. Where it panics, a class names a first method past the end. Document 01 has us stop at the
+    last method then: no class takes other methods if that column is lowered to just after the last one, so the record of the lowered
+    streams is taken, in which the Rust does not panic."""
+
+    def __init__(self):
+        self.oracle, self.walker = Oracle(["--record"]), Oracle(["--extents"])
+        self.panics = 0
+
+    def ask(self, case):
+        """The record of an input, or None where the Rust gives none in time."""
+        record = self.oracle.ask(case)
+        if record == b"panic\n":
+            self.panics += 1
+            tables, *heaps = streams(case)
+            record = self.oracle.ask(bundle(lowered(tables, self.walker.ask(case)), *heaps))
+        if record in (b"panic\n", b"inconsistent\n"):
+            sys.exit("no record of the input %s: %s" % (case.hex(), record.decode()))
+        return record
+
+    def end(self):
+        self.oracle.end()
+        self.walker.end()
+
+
+def lowered(tables, extents):
+    """The tables with each first method of a class, the last column, at most just after the last method."""
+    rows = [list(map(int, line.split())) for line in extents.decode().splitlines()[:64]]
+    _, start, size, count = rows[TYPE_DEF]
+    methods = rows[METHOD_DEF][3]
+    tables = bytearray(tables)
+    for end in range(start + size, start + size * (count + 1), size):
+        column = int.from_bytes(tables[end - 2:end], "little")
+        tables[end - 2:end] = min(column, methods + 1).to_bytes(2, "little")
+    return bytes(tables)
+
+
+def name_of(present, digits):
+    return digits.upper() if present else NAMELESS
+
+
+def read_record(answer):
+    """The refusal and the classes: each its name, flags, the names of its generic parameters and its methods, which have the same
+    but for methods."""
+    refusal, classes = None, []
+    for line in answer.decode().splitlines():
+        key, present, value = line.partition("=")
+        if key == "refused":
+            refusal = int(value)
+        elif key == "class":
+            classes.append({"name": name_of(present, value), "generics": [], "methods": []})
+        elif key == "flags":
+            classes[-1]["flags"] = value
+        elif key == "generic":
+            classes[-1]["generics"].append(name_of(present, value))
+        elif key == "method":
+            classes[-1]["methods"].append({"name": name_of(present, value), "generics": []})
+        elif key == "mflags":
+            classes[-1]["methods"][-1]["flags"] = value
+        elif key == "mgeneric":
+            classes[-1]["methods"][-1]["generics"].append(name_of(present, value))
+    return refusal, classes
+
+
+def line(call, numbers, answer):
+    return " ".join([call, *map(str, numbers), "=", str(answer)]).rstrip()
+
+
+def of_missing_method(c, m, refusal=NO_ROW):
+    yield line("method_flags", (c, m), refusal)
+    yield line("method_name", (c, m), refusal)
+    yield line("method_generic_count", (c, m), refusal)
+    yield line("method_generic_name", (c, m, 0), refusal)
+
+
+def of_missing_class(c, refusal=NO_ROW):
+    yield line("class_flags", (c,), refusal)
+    yield line("class_name", (c,), refusal)
+    yield line("generic_count", (c,), refusal)
+    yield line("generic_name", (c, 0), refusal)
+    yield line("method_count", (c,), refusal)
+    yield from of_missing_method(c, 0, refusal)
+
+
+def of_generics(kind, numbers, names):
+    yield line(kind + "_count", numbers, len(names))
+    for g, name in enumerate(names):
+        yield line(kind + "_name", (*numbers, g), name)
+    yield line(kind + "_name", (*numbers, len(names)), NO_ROW)
+
+
+def of_class(c, found, thorough):
+    yield line("class_flags", (c,), found["flags"])
+    yield line("class_name", (c,), found["name"])
+    yield from of_generics("generic", (c,), found["generics"])
+    yield line("method_count", (c,), len(found["methods"]))
+    for m, method in enumerate(found["methods"]):
+        yield line("method_flags", (c, m), method["flags"])
+        yield line("method_name", (c, m), method["name"])
+        yield from of_generics("method_generic", (c, m), method["generics"])
+    past = len(found["methods"])
+    yield from of_missing_method(c, past) if thorough else [line("method_name", (c, past), NO_ROW)]
+
+
+def answers(record, thorough):
+    """A line for each answer of the record but those that are too long, and for some that are refused: just past each end, and, if it
+    is to be thorough, by every call there and at the largest numbers."""
+    refusal, classes = read_record(record)
+    if refusal:
+        yield line("class_count", (), "!%d" % refusal)
+        yield from of_missing_class(0, "!%d" % refusal)
+        return
+    yield line("class_count", (), len(classes))
+    for c, found in enumerate(classes):
+        yield from filter(is_short, of_class(c, found, thorough))
+    for c in (len(classes), LAST - 1, LAST) if thorough else (len(classes),):
+        yield from of_missing_class(c)
+    if classes and thorough:
+        yield line("generic_name", (0, LAST), NO_ROW)
+        yield from of_missing_method(0, LAST)
+
+
+def is_short(line):
+    return len(line.partition("= ")[2]) <= 2 * LONGEST
+
+
+def block(name, streams, lines):
+    hexes = [stream.hex().upper() or "-" for stream in streams]
+    return "\n".join(["@ " + name, *map(" ".join, zip(("tables", "strings", "blob"), hexes)), *lines]) + "\n"
+
+
+def verdict(name, agreed):
+    """What the program writes of a block all of whose answers agree."""
+    return "ok    %s: %d agreed, 0 differed\n" % (name, agreed)
