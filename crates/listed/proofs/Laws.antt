@@ -4,7 +4,7 @@ use mathlib.Core.Bool.{Bool, true, false, cond}
 use mathlib.Core.List.{List}
 use Prim.Native.Nat.{ℕ, _+_, _-_, _≤_, _<_}
 use native.Mathlib.Omega.{arith}
-use borrow.Author.Tests.{leb-true, leb-false}
+use borrow.Author.Tests.{leb-false}
 use lib.Dec.{leb}
 use lib.ListN.{length}
 use Rattle.numbers.proofs.Lists.{tabulate-item, tabulate-past, tabulate-length}
@@ -17,7 +17,7 @@ use Rattle.record.specs.View.{View, viewOf}
 use Rattle.layouts.specs.Kinds.{methodDef}
 use Rattle.record.specs.Names.{classes, rowsIn}
 use Rattle.record.specs.Methods.{leftAfter}
-use Rattle.record.specs.Record.{Class, method, class}
+use Rattle.record.specs.Record.{method, class}
 use Rattle.record.specs.Answers.{_⟫_, orNoRow, item, theClass, theMethod, methodCount}
 use Rattle.record.proofs.Laws.{class-at, class-none}
 use Rattle.rows.specs.Layout.{Laid, rowsAt, viewIn}

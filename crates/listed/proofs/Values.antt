@@ -1,8 +1,8 @@
 -- What a call answers of a class or a method that is listed: the values of its row, and the rows of the side tables that are its own.
 -- Assumes nothing.
-use mathlib.Core.Path.{_≡_, refl, sym, ap, _∙_}
+use mathlib.Core.Path.{_≡_, sym, ap, _∙_}
 use mathlib.Core.List.{List}
-use mathlib.Core.Option.{Option, some}
+use mathlib.Core.Option.{Option}
 use Prim.Native.Nat.{ℕ, _+_, _-_, _*_, _≤_, _<_}
 use native.Mathlib.Omega.{arith}
 use lib.ListN.{length, getElem?}
@@ -19,7 +19,7 @@ use Rattle.tables.specs.Extents.{keptRows}
 use Rattle.record.specs.Missing.{over, andThen, orDefault}
 use Rattle.record.specs.Columns as columns
 use Rattle.record.specs.View.{View, viewOf}
-use Rattle.record.specs.Names.{classes, rowsIn, sizesOf, classFullName}
+use Rattle.record.specs.Names.{rowsIn, sizesOf, classFullName}
 use Rattle.record.specs.Record.{method, class, classRecord}
 use Rattle.record.specs.Answers.{_⟫_, ready, orNoRow, item, theClass, theMethod, Numbered, classCount, classFlags, className, genericCount, genericName, methodCount, methodFlags, methodName, methodGenericCount, methodGenericName}
 use Rattle.record.proofs.Laws.{record-length}

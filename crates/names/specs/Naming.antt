@@ -9,7 +9,6 @@ use lib.ListN.{length}
 use Rattle.numbers.specs.Parts.{part}
 use Rattle.buffers.specs.Texts.{Text}
 use Rattle.heaps.specs.Lookups.{string}
-use Rattle.header.specs.declared.Header.{Header}
 use Rattle.layouts.specs.Kinds.{typeDef, nestedClass}
 use Rattle.layouts.specs.declared.IndexSizes.{IndexSizes}
 use Rattle.tables.specs.Extents.{sizesIn}

@@ -6,10 +6,9 @@ use Prim.Native.Nat.{ℕ, zero, suc, _+_, _*_, _≤_, _<_}
 use native.Mathlib.Nat.{le-of-suc-le-suc, not-suc-le-zero, mul-le-mul-right, suc-mul}
 use native.Mathlib.Omega.{arith}
 use mathlib.Core.Logic.{⊎-elim}
-use borrow.Author.Tests.{ltb-true}
 use denote.Ref.{RefT, now}
 use lib.Dec.{T, ltb, ltb→lt}
-use lib.ListN.{length, take, getD}
+use lib.ListN.{length, getD}
 use Rattle.numbers.specs.Fixed.{leAt}
 use Rattle.numbers.specs.Parts.{CutOf}
 use Rattle.numbers.proofs.Parts.{cut-is}
@@ -23,14 +22,12 @@ use Rattle.heaps.specs.declared.Part.the-variants.{Found, Absent}
 use Rattle.heaps.proofs.Lookups.{string-within, string-some, string-none}
 use Rattle.header.specs.declared.Options.{Options}
 use Rattle.header.specs.declared.Header.{Header}
-use Rattle.layouts.specs.Columns.{tables, Two, columnsOf, widthIn, sumOf, rowSize}
+use Rattle.layouts.specs.Columns.{tables, Two, columnsOf, widthIn, rowSize}
 use Rattle.layouts.proofs.Reaches.{and-left, and-right}
 use Rattle.layouts.proofs.Facts.{two-or-four}
 use Rattle.tables.specs.Extents.{Extent, keptRows, sizesIn}
-use Rattle.tables.proofs.Places.{Stands, stands, few-rows}
+use Rattle.tables.proofs.Places.{stands, few-rows}
 use Rattle.header.proofs.Cases.{few-counted}
-use Rattle.record.specs.Columns.{column}
-use Rattle.record.specs.Rows.{rowBytes}
 use Rattle.record.specs.View.{place}
 use Rattle.record.proofs.Read.{column-at, column-inside}
 use Rattle.record.proofs.Extents.{kept-le}

@@ -1,7 +1,7 @@
-use mathlib.Core.Path.{ap, subst}
+use mathlib.Core.Path.{ap}
 use native.Mathlib.Omega.{arith}
 use borrow.Author.Needs.{needs}
-use Rattle.buffers.specs.Writes.{Said, placeSays}
+use Rattle.buffers.specs.Writes.{placeSays}
 use Rattle.buffers.proofs.Replies.{named-some, named-none}
 use Rattle.rows.proofs.Laws.{rows-narrow}
 use Rattle.listed.proofs.Laws.{class-found, class-missed}

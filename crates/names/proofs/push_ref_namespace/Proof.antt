@@ -1,8 +1,4 @@
-use mathlib.Core.Path.{sym, _∙_}
-use native.Mathlib.Omega.{arith}
 use borrow.Author.Needs.{needs}
-use Rattle.numbers.proofs.Parts.{cut-is}
-use Rattle.heaps.proofs.Lookups.{string-within}
 use Rattle.buffers.proofs.Writing.{wrote-then, wrote-none}
 use Rattle.names.proofs.Full.{dotted-some, dotted-none}
 use Rattle.names.proofs.push_ref_namespace.Statement.{statement}

@@ -1,7 +1,7 @@
 use mathlib.Core.Path.{_∙_}
 use native.Mathlib.Omega.{arith}
 use borrow.Author.Needs.{needs}
-use Rattle.rows.proofs.Laws.{Reads, reads as column-reads}
+use Rattle.rows.proofs.Laws.{reads as column-reads}
 use Rattle.rows.proofs.read_column.Statement.{statement}
 use Rattle.rows.proofs.read_column.Tie as tie
 use Rattle.rows.proofs.read_column.Reads as reads

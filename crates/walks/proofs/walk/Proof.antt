@@ -1,4 +1,4 @@
-use mathlib.Core.Path.{_≡_, _∙_, ap}
+use mathlib.Core.Path.{_∙_, ap}
 use Rattle.header.specs.declared.Options.{Options}
 use Rattle.tables.specs.Extents.{walkOf}
 use borrow.Author.Needs.{needs}

@@ -1,4 +1,4 @@
-use mathlib.Core.Path.{_≡_, _∙_}
+use mathlib.Core.Path.{_∙_}
 use Rattle.header.proofs.Cases.{first-within}
 use Rattle.tables.proofs.Outcome.{is-refused, is-walked}
 use borrow.Author.Needs.{needs}

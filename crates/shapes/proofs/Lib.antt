@@ -1,0 +1,4 @@
+pub mod Series
+pub mod Dims
+pub mod Runs
+pub mod Laws

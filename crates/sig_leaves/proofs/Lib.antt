@@ -1,0 +1,4 @@
+pub mod Simple
+pub mod Numbers
+pub mod Generics
+pub mod Specs
