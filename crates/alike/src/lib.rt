@@ -24,8 +24,8 @@ fn walk_alike(t: &[u8], u: &[u8]) -> Walks
     requires { ⌜ Rearranged base (now t) (now u) ⌝ }
     ensures { λ r. ⌜ r .after ≡ r .before ⌝ }
 {
-    let before = walks::walk(t);
-    let after = walks::walk(u);
+    let before = dotnet::walk(t);
+    let after = dotnet::walk(u);
     Walks { before, after }
 }
 
@@ -33,8 +33,8 @@ fn walk_with_alike(t: &[u8], u: &[u8], options: Options) -> Walks
     requires { ⌜ Rearranged options (now t) (now u) ⌝ }
     ensures { λ r. ⌜ r .after ≡ r .before ⌝ }
 {
-    let before = walks::walk_with(t, options);
-    let after = walks::walk_with(u, options);
+    let before = dotnet::walk_with(t, options);
+    let after = dotnet::walk_with(u, options);
     Walks { before, after }
 }
 
@@ -42,8 +42,8 @@ fn class_count_alike(t: &[u8], u: &[u8], strings: &[u8], blob: &[u8], options: O
     requires { ⌜ Rearranged options (now t) (now u) ⌝ }
     ensures { λ r. ⌜ r .after ≡ r .before ⌝ }
 {
-    let before = class_calls::class_count(t, strings, blob, options);
-    let after = class_calls::class_count(u, strings, blob, options);
+    let before = dotnet::class_count(t, strings, blob, options);
+    let after = dotnet::class_count(u, strings, blob, options);
     Replies { before, after }
 }
 
@@ -58,8 +58,8 @@ fn class_flags_alike(
     requires { ⌜ Rearranged options (now t) (now u) ⌝ }
     ensures { λ r. ⌜ r .after ≡ r .before ⌝ }
 {
-    let before = class_calls::class_flags(t, strings, blob, options, class);
-    let after = class_calls::class_flags(u, strings, blob, options, class);
+    let before = dotnet::class_flags(t, strings, blob, options, class);
+    let after = dotnet::class_flags(u, strings, blob, options, class);
     Replies { before, after }
 }
 
@@ -74,8 +74,24 @@ fn generic_count_alike(
     requires { ⌜ Rearranged options (now t) (now u) ⌝ }
     ensures { λ r. ⌜ r .after ≡ r .before ⌝ }
 {
-    let before = generic_calls::generic_count(t, strings, blob, options, class);
-    let after = generic_calls::generic_count(u, strings, blob, options, class);
+    let before = dotnet::generic_count(t, strings, blob, options, class);
+    let after = dotnet::generic_count(u, strings, blob, options, class);
+    Replies { before, after }
+}
+
+fn base_count_alike(
+    t: &[u8],
+    u: &[u8],
+    strings: &[u8],
+    blob: &[u8],
+    options: Options,
+    class: ClassNumber,
+) -> Replies
+    requires { ⌜ Rearranged options (now t) (now u) ⌝ }
+    ensures { λ r. ⌜ r .after ≡ r .before ⌝ }
+{
+    let before = dotnet::base_count(t, strings, blob, options, class);
+    let after = dotnet::base_count(u, strings, blob, options, class);
     Replies { before, after }
 }
 
@@ -90,8 +106,8 @@ fn method_count_alike(
     requires { ⌜ Rearranged options (now t) (now u) ⌝ }
     ensures { λ r. ⌜ r .after ≡ r .before ⌝ }
 {
-    let before = method_calls::method_count(t, strings, blob, options, class);
-    let after = method_calls::method_count(u, strings, blob, options, class);
+    let before = dotnet::method_count(t, strings, blob, options, class);
+    let after = dotnet::method_count(u, strings, blob, options, class);
     Replies { before, after }
 }
 
@@ -107,8 +123,8 @@ fn method_flags_alike(
     requires { ⌜ Rearranged options (now t) (now u) ⌝ }
     ensures { λ r. ⌜ r .after ≡ r .before ⌝ }
 {
-    let before = method_calls::method_flags(t, strings, blob, options, class, m);
-    let after = method_calls::method_flags(u, strings, blob, options, class, m);
+    let before = dotnet::method_flags(t, strings, blob, options, class, m);
+    let after = dotnet::method_flags(u, strings, blob, options, class, m);
     Replies { before, after }
 }
 
@@ -124,8 +140,8 @@ fn method_generic_count_alike(
     requires { ⌜ Rearranged options (now t) (now u) ⌝ }
     ensures { λ r. ⌜ r .after ≡ r .before ⌝ }
 {
-    let before = method_generic_calls::method_generic_count(t, strings, blob, options, class, m);
-    let after = method_generic_calls::method_generic_count(u, strings, blob, options, class, m);
+    let before = dotnet::method_generic_count(t, strings, blob, options, class, m);
+    let after = dotnet::method_generic_count(u, strings, blob, options, class, m);
     Replies { before, after }
 }
 
@@ -143,8 +159,8 @@ fn class_name_alike(
     requires { ⌜ length (now other) ≡ length (now buf) ⌝ }
     ensures { λ r. ⌜ (r .after ≡ r .before) × (now (other .exit) ≡ now (buf .exit)) ⌝ }
 {
-    let before = class_calls::class_name(t, strings, blob, options, class, buf);
-    let after = class_calls::class_name(u, strings, blob, options, class, other);
+    let before = dotnet::class_name(t, strings, blob, options, class, buf);
+    let after = dotnet::class_name(u, strings, blob, options, class, other);
     Replies { before, after }
 }
 
@@ -163,8 +179,28 @@ fn generic_name_alike(
     requires { ⌜ length (now other) ≡ length (now buf) ⌝ }
     ensures { λ r. ⌜ (r .after ≡ r .before) × (now (other .exit) ≡ now (buf .exit)) ⌝ }
 {
-    let before = generic_calls::generic_name(t, strings, blob, options, class, g, buf);
-    let after = generic_calls::generic_name(u, strings, blob, options, class, g, other);
+    let before = dotnet::generic_name(t, strings, blob, options, class, g, buf);
+    let after = dotnet::generic_name(u, strings, blob, options, class, g, other);
+    Replies { before, after }
+}
+
+fn base_name_alike(
+    t: &[u8],
+    u: &[u8],
+    strings: &[u8],
+    blob: &[u8],
+    options: Options,
+    class: ClassNumber,
+    b: u32,
+    buf: &mut [u8],
+    other: &mut [u8],
+) -> Replies
+    requires { ⌜ Rearranged options (now t) (now u) ⌝ }
+    requires { ⌜ length (now other) ≡ length (now buf) ⌝ }
+    ensures { λ r. ⌜ (r .after ≡ r .before) × (now (other .exit) ≡ now (buf .exit)) ⌝ }
+{
+    let before = dotnet::base_name(t, strings, blob, options, class, b, buf);
+    let after = dotnet::base_name(u, strings, blob, options, class, b, other);
     Replies { before, after }
 }
 
@@ -183,8 +219,8 @@ fn method_name_alike(
     requires { ⌜ length (now other) ≡ length (now buf) ⌝ }
     ensures { λ r. ⌜ (r .after ≡ r .before) × (now (other .exit) ≡ now (buf .exit)) ⌝ }
 {
-    let before = method_calls::method_name(t, strings, blob, options, class, m, buf);
-    let after = method_calls::method_name(u, strings, blob, options, class, m, other);
+    let before = dotnet::method_name(t, strings, blob, options, class, m, buf);
+    let after = dotnet::method_name(u, strings, blob, options, class, m, other);
     Replies { before, after }
 }
 
@@ -204,25 +240,86 @@ fn method_generic_name_alike(
     requires { ⌜ length (now other) ≡ length (now buf) ⌝ }
     ensures { λ r. ⌜ (r .after ≡ r .before) × (now (other .exit) ≡ now (buf .exit)) ⌝ }
 {
-    let before = method_generic_calls::method_generic_name(
-        t,
-        strings,
-        blob,
-        options,
-        class,
-        m,
-        g,
-        buf,
-    );
-    let after = method_generic_calls::method_generic_name(
-        u,
-        strings,
-        blob,
-        options,
-        class,
-        m,
-        g,
-        other,
-    );
+    let before = dotnet::method_generic_name(t, strings, blob, options, class, m, g, buf);
+    let after = dotnet::method_generic_name(u, strings, blob, options, class, m, g, other);
+    Replies { before, after }
+}
+
+fn param_count_alike(
+    t: &[u8],
+    u: &[u8],
+    strings: &[u8],
+    blob: &[u8],
+    options: Options,
+    class: ClassNumber,
+    m: u32,
+) -> Replies
+    requires { ⌜ Rearranged options (now t) (now u) ⌝ }
+    ensures { λ r. ⌜ r .after ≡ r .before ⌝ }
+{
+    let before = dotnet::param_count(t, strings, blob, options, class, m);
+    let after = dotnet::param_count(u, strings, blob, options, class, m);
+    Replies { before, after }
+}
+
+fn return_type_alike(
+    t: &[u8],
+    u: &[u8],
+    strings: &[u8],
+    blob: &[u8],
+    options: Options,
+    class: ClassNumber,
+    m: u32,
+    buf: &mut [u8],
+    other: &mut [u8],
+) -> Replies
+    requires { ⌜ Rearranged options (now t) (now u) ⌝ }
+    requires { ⌜ length (now other) ≡ length (now buf) ⌝ }
+    ensures { λ r. ⌜ (r .after ≡ r .before) × (now (other .exit) ≡ now (buf .exit)) ⌝ }
+{
+    let before = dotnet::return_type(t, strings, blob, options, class, m, buf);
+    let after = dotnet::return_type(u, strings, blob, options, class, m, other);
+    Replies { before, after }
+}
+
+fn param_type_alike(
+    t: &[u8],
+    u: &[u8],
+    strings: &[u8],
+    blob: &[u8],
+    options: Options,
+    class: ClassNumber,
+    m: u32,
+    p: u32,
+    buf: &mut [u8],
+    other: &mut [u8],
+) -> Replies
+    requires { ⌜ Rearranged options (now t) (now u) ⌝ }
+    requires { ⌜ length (now other) ≡ length (now buf) ⌝ }
+    ensures { λ r. ⌜ (r .after ≡ r .before) × (now (other .exit) ≡ now (buf .exit)) ⌝ }
+{
+    let before = dotnet::param_type(t, strings, blob, options, class, m, p, buf);
+    let after = dotnet::param_type(u, strings, blob, options, class, m, p, other);
+    Replies { before, after }
+}
+
+fn param_name_alike(
+    t: &[u8],
+    u: &[u8],
+    strings: &[u8],
+    blob: &[u8],
+    options: Options,
+    class: ClassNumber,
+    m: u32,
+    p: u32,
+    buf: &mut [u8],
+    other: &mut [u8],
+) -> Replies
+    requires { ⌜ Rearranged options (now t) (now u) ⌝ }
+    requires { ⌜ length (now other) ≡ length (now buf) ⌝ }
+    ensures { λ r. ⌜ (r .after ≡ r .before) × (now (other .exit) ≡ now (buf .exit)) ⌝ }
+{
+    let before = dotnet::param_name(t, strings, blob, options, class, m, p, buf);
+    let after = dotnet::param_name(u, strings, blob, options, class, m, p, other);
     Replies { before, after }
 }

@@ -20,8 +20,8 @@ use Rattle.record.specs.Missing.{over, andThen, orDefault}
 use Rattle.record.specs.Columns as columns
 use Rattle.record.specs.View.{View, viewOf}
 use Rattle.record.specs.Names.{rowsIn, sizesOf, classFullName}
-use Rattle.record.specs.Record.{method, class, classRecord}
-use Rattle.record.specs.Answers.{_⟫_, ready, orNoRow, item, theClass, theMethod, Numbered, classCount, classFlags, className, genericCount, genericName, methodCount, methodFlags, methodName, methodGenericCount, methodGenericName}
+use Rattle.record.specs.Record.{Parameter, Method, method, class, classRecord}
+use Rattle.record.specs.Answers.{_⟫_, ready, orNoRow, item, theClass, theMethod, Numbered, classCount, classFlags, className, genericCount, genericName, methodCount, methodFlags, methodName, methodGenericCount, methodGenericName, returnType, parameterCount, parameterType, parameterName}
 use Rattle.record.proofs.Laws.{record-length}
 use Rattle.record.proofs.Read.{class-row, method-row}
 use Rattle.rows.specs.Layout.{Laid, rowsAt, cell, optionsIn, headerIn, viewIn}
@@ -141,6 +141,24 @@ module _ {t l : List ℕ} (laid : Laid t l) (strings blob : List ℕ) where
     unfolding methodGenericName method
     method-generic g n = named-as (through (λ k. item (k .generics) g ⟫ nameOr5) (at .0)) n
 
+    pub method-returns : {b b′ : List ℕ} {r : Reply} → Named (nameOr5 (method v i .returns)) b r b′ → Named (returnType v c m) b r b′
+    unfolding returnType
+    method-returns n = named-as (through (λ k. nameOr5 (k .returns)) (at .0)) n
+
+    pub method-parameters : {x : ℕ} → x ≡ length (method v i .parameters) → Numbered (parameterCount v c m) (Is x)
+    unfolding parameterCount
+    method-parameters e = ap value e ∙ sym (through (λ k. value (length (k .parameters))) (at .0))
+
+    -- What is asked of parameter p.
+    module _ (p : ℕ) {b b′ : List ℕ} {r : Reply} where
+      pub method-parameter-type : Named (item (method v i .parameters) p ⟫ (λ k. nameOr5 (k .type))) b r b′ → Named (parameterType v c m p) b r b′
+      unfolding parameterType
+      method-parameter-type n = named-as (ap (λ (a : Answer Method). a ⟫ (λ k. item (k .parameters) p) ⟫ (λ (x : Parameter). nameOr5 (x .type))) (at .0)) n
+
+      pub method-parameter-name : Named (item (method v i .parameters) p ⟫ (λ k. nameOr5 (k .name))) b r b′ → Named (parameterName v c m p) b r b′
+      unfolding parameterName
+      method-parameter-name n = named-as (ap (λ (a : Answer Method). a ⟫ (λ k. item (k .parameters) p) ⟫ (λ (x : Parameter). nameOr5 (x .name))) (at .0)) n
+
   -- A method that is not: every call for it answers 4.
   module _ (c m : ℕ) (isn't : theMethod v c m ≡ refused (number NoSuchRow)) where
     pub no-method-flags : Numbered (methodFlags v c m) (No NoSuchRow)
@@ -151,10 +169,26 @@ module _ {t l : List ℕ} (laid : Laid t l) (strings blob : List ℕ) where
     unfolding methodGenericCount
     no-method-generics = sym (stopped (λ k. value (length (k .generics))) isn't)
 
+    pub no-method-parameters : Numbered (parameterCount v c m) (No NoSuchRow)
+    unfolding parameterCount
+    no-method-parameters = sym (stopped (λ k. value (length (k .parameters))) isn't)
+
     module _ {b b′ : List ℕ} {r : Reply} (n : Named (refused (number NoSuchRow)) b r b′) where
       pub no-method-name : Named (methodName v c m) b r b′
       unfolding methodName
       no-method-name = named-as (stopped (λ k. nameOr5 (k .name)) isn't) n
+
+      pub no-method-returns : Named (returnType v c m) b r b′
+      unfolding returnType
+      no-method-returns = named-as (stopped (λ k. nameOr5 (k .returns)) isn't) n
+
+      pub no-method-parameter-type : (p : ℕ) → Named (parameterType v c m p) b r b′
+      unfolding parameterType
+      no-method-parameter-type p = named-as (ap (λ (a : Answer Method). a ⟫ (λ k. item (k .parameters) p) ⟫ (λ (x : Parameter). nameOr5 (x .type))) isn't) n
+
+      pub no-method-parameter-name : (p : ℕ) → Named (parameterName v c m p) b r b′
+      unfolding parameterName
+      no-method-parameter-name p = named-as (ap (λ (a : Answer Method). a ⟫ (λ k. item (k .parameters) p) ⟫ (λ (x : Parameter). nameOr5 (x .name))) isn't) n
 
       pub no-method-generic : (g : ℕ) → Named (methodGenericName v c m g) b r b′
       unfolding methodGenericName

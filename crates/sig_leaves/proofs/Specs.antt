@@ -23,11 +23,11 @@ use Rattle.sig_leaves.specs.declared.Blob.{Blob}
 use Rattle.sig_leaves.specs.declared.Blob.the-variants.{At, Missing}
 
 -- The bytes of a blob that was looked up.
-blob-some : (s : List ℕ) (i : ℕ) {start n : ℕ} → Found start n ≡ blobAt s i → blob s i ≡ some (part s start n)
+pub blob-some : (s : List ℕ) (i : ℕ) {start n : ℕ} → Found start n ≡ blobAt s i → blob s i ≡ some (part s start n)
 unfolding blob
 blob-some s i e = rw (← e)
 
-blob-absent : (s : List ℕ) (i : ℕ) {why : Absence} → Absent why ≡ blobAt s i → blob s i ≡ none
+pub blob-absent : (s : List ℕ) (i : ℕ) {why : Absence} → Absent why ≡ blobAt s i → blob s i ≡ none
 unfolding blob
 blob-absent s i e = rw (← e)
 

@@ -19,6 +19,9 @@ ghost use Rattle.rows.specs.Layout.{Laid, rowsAt, cell, viewIn};
 ghost use Rattle.rendering.specs.Rendered.{Rendered};
 ghost use Rattle.sig_leaves.specs.Leaves.{upTo, argumentCount, genericsOf, BlobIs};
 
+// The levels of a signature: the level starts at 0, and one above 16 refuses.
+pub const LEVELS: usize = 17;
+
 // Whose generic parameters are meant, by the Owner column as stored (II.22.20). A signature that is in no method has none of a method.
 pub enum Owner {
     Of(usize),

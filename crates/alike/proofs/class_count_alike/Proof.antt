@@ -5,7 +5,7 @@ use Rattle.alike.proofs.class_count_alike.Statement.{statement}
 use Rattle.alike.proofs.class_count_alike.Tie as tie
 use Rattle.alike.proofs.class_count_alike.Reads as reads
 use Rattle.alike.proofs.class_count_alike.Lts as lts
-use Rattle.class_calls.proofs.class_count.Reads as class-count-reads
+use Rattle.dotnet.proofs.class_count.Reads as class-count-reads
 
 -- src/lib.rt:45:9
 class-count-requires : tie.Need-class-count-requires

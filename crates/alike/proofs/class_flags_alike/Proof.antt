@@ -5,7 +5,7 @@ use Rattle.alike.proofs.class_flags_alike.Statement.{statement}
 use Rattle.alike.proofs.class_flags_alike.Tie as tie
 use Rattle.alike.proofs.class_flags_alike.Reads as reads
 use Rattle.alike.proofs.class_flags_alike.Lts as lts
-use Rattle.class_calls.proofs.class_flags.Reads as class-flags-reads
+use Rattle.dotnet.proofs.class_flags.Reads as class-flags-reads
 
 -- src/lib.rt:61:9
 class-flags-requires : tie.Need-class-flags-requires

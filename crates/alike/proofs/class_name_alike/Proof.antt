@@ -5,7 +5,7 @@ use Rattle.alike.proofs.class_name_alike.Statement.{statement}
 use Rattle.alike.proofs.class_name_alike.Tie as tie
 use Rattle.alike.proofs.class_name_alike.Reads as reads
 use Rattle.alike.proofs.class_name_alike.Lts as lts
-use Rattle.class_calls.proofs.class_name.Reads as class-name-reads
+use Rattle.dotnet.proofs.class_name.Reads as class-name-reads
 
 -- src/lib.rt:146:9
 class-name-requires : tie.Need-class-name-requires

@@ -5,7 +5,7 @@ use Rattle.alike.proofs.generic_count_alike.Statement.{statement}
 use Rattle.alike.proofs.generic_count_alike.Tie as tie
 use Rattle.alike.proofs.generic_count_alike.Reads as reads
 use Rattle.alike.proofs.generic_count_alike.Lts as lts
-use Rattle.generic_calls.proofs.generic_count.Reads as generic-count-reads
+use Rattle.dotnet.proofs.generic_count.Reads as generic-count-reads
 
 -- src/lib.rt:77:9
 generic-count-requires : tie.Need-generic-count-requires

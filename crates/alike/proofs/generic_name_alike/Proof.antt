@@ -5,7 +5,7 @@ use Rattle.alike.proofs.generic_name_alike.Statement.{statement}
 use Rattle.alike.proofs.generic_name_alike.Tie as tie
 use Rattle.alike.proofs.generic_name_alike.Reads as reads
 use Rattle.alike.proofs.generic_name_alike.Lts as lts
-use Rattle.generic_calls.proofs.generic_name.Reads as generic-name-reads
+use Rattle.dotnet.proofs.generic_name.Reads as generic-name-reads
 
 -- src/lib.rt:166:9
 generic-name-requires : tie.Need-generic-name-requires

@@ -5,7 +5,7 @@ use Rattle.alike.proofs.method_count_alike.Statement.{statement}
 use Rattle.alike.proofs.method_count_alike.Tie as tie
 use Rattle.alike.proofs.method_count_alike.Reads as reads
 use Rattle.alike.proofs.method_count_alike.Lts as lts
-use Rattle.method_calls.proofs.method_count.Reads as method-count-reads
+use Rattle.dotnet.proofs.method_count.Reads as method-count-reads
 
 -- src/lib.rt:93:9
 method-count-requires : tie.Need-method-count-requires

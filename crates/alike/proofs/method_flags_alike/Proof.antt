@@ -5,7 +5,7 @@ use Rattle.alike.proofs.method_flags_alike.Statement.{statement}
 use Rattle.alike.proofs.method_flags_alike.Tie as tie
 use Rattle.alike.proofs.method_flags_alike.Reads as reads
 use Rattle.alike.proofs.method_flags_alike.Lts as lts
-use Rattle.method_calls.proofs.method_flags.Reads as method-flags-reads
+use Rattle.dotnet.proofs.method_flags.Reads as method-flags-reads
 
 -- src/lib.rt:110:9
 method-flags-requires : tie.Need-method-flags-requires

@@ -5,7 +5,7 @@ use Rattle.alike.proofs.method_generic_count_alike.Statement.{statement
 use Rattle.alike.proofs.method_generic_count_alike.Tie as tie
 use Rattle.alike.proofs.method_generic_count_alike.Reads as reads
 use Rattle.alike.proofs.method_generic_count_alike.Lts as lts
-use Rattle.method_generic_calls.proofs.method_generic_count.Reads as method-generic-count-reads
+use Rattle.dotnet.proofs.method_generic_count.Reads as method-generic-count-reads
 
 -- src/lib.rt:127:9
 method-generic-count-requires : tie.Need-method-generic-count-requires

@@ -5,7 +5,7 @@ use Rattle.alike.proofs.method_generic_name_alike.Statement.{statement}
 use Rattle.alike.proofs.method_generic_name_alike.Tie as tie
 use Rattle.alike.proofs.method_generic_name_alike.Reads as reads
 use Rattle.alike.proofs.method_generic_name_alike.Lts as lts
-use Rattle.method_generic_calls.proofs.method_generic_name.Reads as method-generic-name-reads
+use Rattle.dotnet.proofs.method_generic_name.Reads as method-generic-name-reads
 
 -- src/lib.rt:207:9
 method-generic-name-requires : tie.Need-method-generic-name-requires

@@ -5,7 +5,7 @@ use Rattle.alike.proofs.method_name_alike.Statement.{statement}
 use Rattle.alike.proofs.method_name_alike.Tie as tie
 use Rattle.alike.proofs.method_name_alike.Reads as reads
 use Rattle.alike.proofs.method_name_alike.Lts as lts
-use Rattle.method_calls.proofs.method_name.Reads as method-name-reads
+use Rattle.dotnet.proofs.method_name.Reads as method-name-reads
 
 -- src/lib.rt:186:9
 method-name-requires : tie.Need-method-name-requires

@@ -4,7 +4,7 @@ use Rattle.alike.proofs.walk_alike.Statement.{statement}
 use Rattle.alike.proofs.walk_alike.Tie as tie
 use Rattle.alike.proofs.walk_alike.Reads as reads
 use Rattle.alike.proofs.walk_alike.Lts as lts
-use Rattle.walks.proofs.walk.Reads as walk-reads
+use Rattle.dotnet.proofs.walk.Reads as walk-reads
 
 -- src/lib.rt:27:9
 walk-requires : tie.Need-walk-requires

@@ -4,7 +4,7 @@ use Rattle.alike.proofs.walk_with_alike.Statement.{statement}
 use Rattle.alike.proofs.walk_with_alike.Tie as tie
 use Rattle.alike.proofs.walk_with_alike.Reads as reads
 use Rattle.alike.proofs.walk_with_alike.Lts as lts
-use Rattle.walks.proofs.walk_with.Reads as walk-with-reads
+use Rattle.dotnet.proofs.walk_with.Reads as walk-with-reads
 
 -- src/lib.rt:36:9
 walk-with-requires : tie.Need-walk-with-requires

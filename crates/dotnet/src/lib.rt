@@ -1,0 +1,264 @@
+// The library: every public call, from the crates that prove them. Each takes the streams as lent slices, opens them itself, has no
+// precondition, and says its entire reply and, for a name, the entire final buffer.
+use buffers::Reply;
+use classes::ClassNumber;
+use header::Options;
+use heaps::Heap;
+use tables::Extents;
+ghost use mathlib.Core.Path.{_≡_};
+ghost use Rattle.buffers.specs.Replies.{Named};
+ghost use Rattle.header.specs.Opening.{base};
+ghost use Rattle.heaps.specs.Lookups.{Looked};
+ghost use Rattle.tables.specs.Extents.{walkSays, walkOf};
+ghost use Rattle.record.specs.View.{view};
+ghost use Rattle.record.specs.Answers.{Numbered, classCount, classFlags, className, genericCount, genericName, baseCount, baseName, methodCount, methodFlags, methodName, methodGenericCount, methodGenericName, returnType, parameterCount, parameterType, parameterName};
+
+// The walk of the base.
+pub fn walk(tables: &[u8]) -> Extents
+    ensures { λ r. ⌜ walkSays r ≡ walkOf base (now (tables .entry)) ⌝ }
+{
+    walks::walk(tables)
+}
+
+// The walk over a stream that is opened with these options.
+pub fn walk_with(tables: &[u8], options: Options) -> Extents
+    ensures { λ r. ⌜ walkSays r ≡ walkOf options (now (tables .entry)) ⌝ }
+{
+    walks::walk_with(tables, options)
+}
+
+// The raw lookup: the very part of the heap that is meant, and 0 in `refusal`; or an empty part of it, and refusal 7.
+pub fn lookup<'a>(
+    strings: &'a [u8],
+    blobs: &'a [u8],
+    heap: Heap,
+    index: u32,
+    refusal: &mut u8,
+) -> &'a [u8]
+    ensures { λ r. ⌜ Looked r (strings .entry) (blobs .entry) heap index (now (refusal .exit)) ⌝ }
+{
+    heaps::lookup(strings, blobs, heap, index, refusal)
+}
+
+// How many classes there are.
+pub fn class_count(tables: &[u8], strings: &[u8], blob: &[u8], options: Options) -> Reply
+    ensures { λ r. ⌜ Numbered (classCount (view options (now (tables .entry)) (now (strings .entry)) (now (blob .entry)))) r ⌝ }
+{
+    class_calls::class_count(tables, strings, blob, options)
+}
+
+// The flags of a class (II.23.1.15).
+pub fn class_flags(
+    tables: &[u8],
+    strings: &[u8],
+    blob: &[u8],
+    options: Options,
+    class: ClassNumber,
+) -> Reply
+    ensures { λ r. ⌜ Numbered (classFlags (view options (now (tables .entry)) (now (strings .entry)) (now (blob .entry))) (class .0)) r ⌝ }
+{
+    class_calls::class_flags(tables, strings, blob, options, class)
+}
+
+// The full name of a class.
+pub fn class_name(
+    tables: &[u8],
+    strings: &[u8],
+    blob: &[u8],
+    options: Options,
+    class: ClassNumber,
+    buf: &mut [u8],
+) -> Reply
+    ensures { λ r. ⌜ Named (className (view options (now (tables .entry)) (now (strings .entry)) (now (blob .entry))) (class .0)) (now (buf .entry)) r (now (buf .exit)) ⌝ }
+{
+    class_calls::class_name(tables, strings, blob, options, class, buf)
+}
+
+// How many generic parameters a class has.
+pub fn generic_count(
+    tables: &[u8],
+    strings: &[u8],
+    blob: &[u8],
+    options: Options,
+    class: ClassNumber,
+) -> Reply
+    ensures { λ r. ⌜ Numbered (genericCount (view options (now (tables .entry)) (now (strings .entry)) (now (blob .entry))) (class .0)) r ⌝ }
+{
+    generic_calls::generic_count(tables, strings, blob, options, class)
+}
+
+// The name of generic parameter g of a class.
+pub fn generic_name(
+    tables: &[u8],
+    strings: &[u8],
+    blob: &[u8],
+    options: Options,
+    class: ClassNumber,
+    g: u32,
+    buf: &mut [u8],
+) -> Reply
+    ensures { λ r. ⌜ Named (genericName (view options (now (tables .entry)) (now (strings .entry)) (now (blob .entry))) (class .0) g) (now (buf .entry)) r (now (buf .exit)) ⌝ }
+{
+    generic_calls::generic_name(tables, strings, blob, options, class, g, buf)
+}
+
+// How many base types a class has.
+pub fn base_count(
+    tables: &[u8],
+    strings: &[u8],
+    blob: &[u8],
+    options: Options,
+    class: ClassNumber,
+) -> Reply
+    ensures { λ r. ⌜ Numbered (baseCount (view options (now (tables .entry)) (now (strings .entry)) (now (blob .entry))) (class .0)) r ⌝ }
+{
+    base_calls::base_count(tables, strings, blob, options, class)
+}
+
+// The name of base type b of a class.
+pub fn base_name(
+    tables: &[u8],
+    strings: &[u8],
+    blob: &[u8],
+    options: Options,
+    class: ClassNumber,
+    b: u32,
+    buf: &mut [u8],
+) -> Reply
+    ensures { λ r. ⌜ Named (baseName (view options (now (tables .entry)) (now (strings .entry)) (now (blob .entry))) (class .0) b) (now (buf .entry)) r (now (buf .exit)) ⌝ }
+{
+    base_calls::base_name(tables, strings, blob, options, class, b, buf)
+}
+
+// How many methods a class has.
+pub fn method_count(
+    tables: &[u8],
+    strings: &[u8],
+    blob: &[u8],
+    options: Options,
+    class: ClassNumber,
+) -> Reply
+    ensures { λ r. ⌜ Numbered (methodCount (view options (now (tables .entry)) (now (strings .entry)) (now (blob .entry))) (class .0)) r ⌝ }
+{
+    method_calls::method_count(tables, strings, blob, options, class)
+}
+
+// The flags of method m of a class (II.23.1.10).
+pub fn method_flags(
+    tables: &[u8],
+    strings: &[u8],
+    blob: &[u8],
+    options: Options,
+    class: ClassNumber,
+    m: u32,
+) -> Reply
+    ensures { λ r. ⌜ Numbered (methodFlags (view options (now (tables .entry)) (now (strings .entry)) (now (blob .entry))) (class .0) m) r ⌝ }
+{
+    method_calls::method_flags(tables, strings, blob, options, class, m)
+}
+
+// The name of method m of a class.
+pub fn method_name(
+    tables: &[u8],
+    strings: &[u8],
+    blob: &[u8],
+    options: Options,
+    class: ClassNumber,
+    m: u32,
+    buf: &mut [u8],
+) -> Reply
+    ensures { λ r. ⌜ Named (methodName (view options (now (tables .entry)) (now (strings .entry)) (now (blob .entry))) (class .0) m) (now (buf .entry)) r (now (buf .exit)) ⌝ }
+{
+    method_calls::method_name(tables, strings, blob, options, class, m, buf)
+}
+
+// How many generic parameters method m of a class has.
+pub fn method_generic_count(
+    tables: &[u8],
+    strings: &[u8],
+    blob: &[u8],
+    options: Options,
+    class: ClassNumber,
+    m: u32,
+) -> Reply
+    ensures { λ r. ⌜ Numbered (methodGenericCount (view options (now (tables .entry)) (now (strings .entry)) (now (blob .entry))) (class .0) m) r ⌝ }
+{
+    method_generic_calls::method_generic_count(tables, strings, blob, options, class, m)
+}
+
+// The name of generic parameter g of method m of a class.
+pub fn method_generic_name(
+    tables: &[u8],
+    strings: &[u8],
+    blob: &[u8],
+    options: Options,
+    class: ClassNumber,
+    m: u32,
+    g: u32,
+    buf: &mut [u8],
+) -> Reply
+    ensures { λ r. ⌜ Named (methodGenericName (view options (now (tables .entry)) (now (strings .entry)) (now (blob .entry))) (class .0) m g) (now (buf .entry)) r (now (buf .exit)) ⌝ }
+{
+    method_generic_calls::method_generic_name(tables, strings, blob, options, class, m, g, buf)
+}
+
+// The return type of method m of a class.
+pub fn return_type(
+    tables: &[u8],
+    strings: &[u8],
+    blob: &[u8],
+    options: Options,
+    class: ClassNumber,
+    m: u32,
+    buf: &mut [u8],
+) -> Reply
+    ensures { λ r. ⌜ Named (returnType (view options (now (tables .entry)) (now (strings .entry)) (now (blob .entry))) (class .0) m) (now (buf .entry)) r (now (buf .exit)) ⌝ }
+{
+    signature_calls::return_type(tables, strings, blob, options, class, m, buf)
+}
+
+// How many parameters method m of a class has.
+pub fn param_count(
+    tables: &[u8],
+    strings: &[u8],
+    blob: &[u8],
+    options: Options,
+    class: ClassNumber,
+    m: u32,
+) -> Reply
+    ensures { λ r. ⌜ Numbered (parameterCount (view options (now (tables .entry)) (now (strings .entry)) (now (blob .entry))) (class .0) m) r ⌝ }
+{
+    signature_calls::param_count(tables, strings, blob, options, class, m)
+}
+
+// The type of parameter p of method m of a class.
+pub fn param_type(
+    tables: &[u8],
+    strings: &[u8],
+    blob: &[u8],
+    options: Options,
+    class: ClassNumber,
+    m: u32,
+    p: u32,
+    buf: &mut [u8],
+) -> Reply
+    ensures { λ r. ⌜ Named (parameterType (view options (now (tables .entry)) (now (strings .entry)) (now (blob .entry))) (class .0) m p) (now (buf .entry)) r (now (buf .exit)) ⌝ }
+{
+    signature_calls::param_type(tables, strings, blob, options, class, m, p, buf)
+}
+
+// The name of parameter p of method m of a class.
+pub fn param_name(
+    tables: &[u8],
+    strings: &[u8],
+    blob: &[u8],
+    options: Options,
+    class: ClassNumber,
+    m: u32,
+    p: u32,
+    buf: &mut [u8],
+) -> Reply
+    ensures { λ r. ⌜ Named (parameterName (view options (now (tables .entry)) (now (strings .entry)) (now (blob .entry))) (class .0) m p) (now (buf .entry)) r (now (buf .exit)) ⌝ }
+{
+    signature_calls::param_name(tables, strings, blob, options, class, m, p, buf)
+}

@@ -1,0 +1,304 @@
+-- What reading a method's signature relies on: the types behind a position, a class's reading step by step, and the scan for the class whose
+-- reading stands. Assumes nothing.
+use mathlib.Core.Path.{_≡_, refl, sym, ap, subst, _∙_}
+use mathlib.Core.Bool.{Bool, true, false, cond, _&&_}
+use mathlib.Core.List.{List, [], _∷_}
+use mathlib.Core.Option.{Option, none, some}
+use Prim.Native.Nat.{ℕ, zero, suc, _+_, _-_, _*_, _≤_, _<_}
+use native.Mathlib.Nat.{sub-zero}
+use native.Mathlib.Omega.{arith}
+use borrow.Author.Tests.{eq-eqb, ne-eqb, le-leb, lt-leb, lt-ltb, le-ltb}
+use lib.Dec.{leb, ltb}
+use lib.ListN.{length, getElem?}
+use Rattle.numbers.specs.Lists.{tabulate}
+use Rattle.numbers.specs.Reading.{Res, Reader, someAt, noneAt}
+use Rattle.numbers.specs.Compressed.{uintSays}
+use Rattle.numbers.specs.Parts.{part}
+use Rattle.numbers.specs.declared.Uint.{Uint}
+use Rattle.numbers.specs.declared.Uint.the-variants.{Number, NoNumber}
+use Rattle.buffers.specs.Texts.{Text}
+use Rattle.buffers.specs.Writes.{Kept, Wrote}
+use Rattle.heaps.specs.Lookups.{blobAt, blob}
+use Rattle.heaps.specs.declared.Absence.{Absence}
+use Rattle.heaps.specs.declared.Part.{Part}
+use Rattle.heaps.specs.declared.Part.the-variants.{Found, Absent}
+use Rattle.heaps.proofs.Lookups.{blob-within}
+use Rattle.layouts.specs.Kinds.{methodDef}
+use Rattle.record.specs.Missing.{andThen, orElse}
+use Rattle.record.specs.Columns.{methodList, methodSignature}
+use Rattle.record.specs.View.{View, viewOf}
+use Rattle.record.specs.Types.{Env, methodStart, type}
+use Rattle.record.specs.Names.{rowsIn, sizesOf, numberIn, classes, classRow, env, levels, classGenerics, methodGenerics}
+use Rattle.record.specs.Methods.{Signature, Pass, tries, signature, readBy, methodLists, handle, pass, signatureOf}
+use Rattle.record.proofs.Read.{class-row, method-row}
+use Rattle.rows.specs.Layout.{Laid, rowsAt, cell, optionsIn, viewIn}
+use Rattle.rows.proofs.Laws.{rows-at}
+use Rattle.rendering.specs.Rendered.{Rendered}
+use Rattle.rendering.specs.declared.Rendering.{Rendering}
+use Rattle.rendering.specs.declared.Rendering.the-variants.{Done, Failed}
+use Rattle.rendering.proofs.Laws.{rendered-done, rendered-failed}
+use Rattle.sig_leaves.specs.declared.Owner.the-variants.{Of}
+use Rattle.sig_leaves.proofs.Specs.{blob-some, blob-absent}
+use Rattle.signatures.specs.Environment.{envIn}
+use Rattle.method_signatures.specs.Signatures.{typeBy, typesFrom, behind, readWithin, ReadingIs, read, missing}
+use Rattle.method_signatures.specs.declared.Reading.{Reading}
+use Rattle.method_signatures.specs.declared.Reading.the-variants.{Read, Missing}
+
+-- ---- The types of parameters
+
+module _ (type : Reader Text) where
+  types-tried : (n : ℕ) (s : List ℕ) (at : ℕ) → tries n type s at .got ≡ some (typesFrom type n s at)
+  unfolding tries typesFrom
+  types-tried zero s at = refl
+  types-tried (suc n) s at = rw (types-tried n s (type s at .next))
+
+  -- One more is passed.
+  pub behind-more : (s : List ℕ) {n k at next : ℕ} → n ≡ suc k → type s at .next ≡ next → behind type n s at ≡ behind type k s next
+  unfolding behind
+  behind-more s e f = rw (e, f)
+
+  pub behind-none : (s : List ℕ) {n : ℕ} (at : ℕ) → n ≡ 0 → behind type n s at ≡ at
+  unfolding behind
+  behind-none s at e = rw e
+
+  -- The type at a place, and none past the end.
+  pub type-at : (n i : ℕ) (s : List ℕ) (at : ℕ) → i < n → getElem? (typesFrom type n s at) i ≡ some (type s (behind type i s at) .got)
+  unfolding typesFrom behind
+  type-at zero i s at h = absurd (omega arith)
+  type-at (suc n) zero s at h = refl
+  type-at (suc n) (suc i) s at h = type-at n i s (type s at .next) (omega arith)
+
+  pub types-past : (n i : ℕ) (s : List ℕ) (at : ℕ) → n ≤ i → getElem? (typesFrom type n s at) i ≡ none
+  unfolding typesFrom
+  types-past zero i s at h = refl
+  types-past (suc n) zero s at h = absurd (omega arith)
+  types-past (suc n) (suc i) s at h = types-past n i s (type s at .next) (omega arith)
+
+  pub types-length : (n : ℕ) (s : List ℕ) (at : ℕ) → length (typesFrom type n s at) ≡ n
+  unfolding typesFrom
+  types-length zero s at = refl
+  types-length (suc n) s at = ap suc (types-length n s (type s at .next))
+
+-- ---- A class's reading
+
+module _ (e : Env) (s : List ℕ) where
+  signature-read : {n first next : ℕ} {t : Text} → someAt n first ≡ methodStart s 0 → type e levels s first .got ≡ some t → type e levels s first .next ≡ next
+      → signature e s 0 .got ≡ some (record { returns = t; parameters = typesFrom (type e levels) n s next })
+  unfolding signature
+  signature-read {n} {first} {next} a b c = rw (← a, b, c, types-tried (type e levels) n s next)
+
+  signature-unread : {n first : ℕ} → someAt n first ≡ methodStart s 0 → type e levels s first .got ≡ none → signature e s 0 .got ≡ none
+  unfolding signature
+  signature-unread a b = rw (← a, b)
+
+  signature-cut : {next : ℕ} → noneAt next ≡ methodStart s 0 → signature e s 0 .got ≡ none
+  unfolding signature
+  signature-cut a = rw (← a)
+
+module _ {t l : List ℕ} (laid : Laid t l) (strings heap : List ℕ) (m c : ℕ) (h : m < rowsAt l 9) where
+  abbrev v : View
+  v = viewIn t l strings heap
+
+  abbrev e : Env
+  e = env v (classGenerics v c) (methodGenerics v m)
+
+  by-class : readBy v m c ≡ andThen (blob heap (cell t l 9 m)) (λ bytes. signature e bytes 0 .got)
+  unfolding readBy viewOf
+  by-class =
+      ap (λ (r : Option (List ℕ)). andThen r (λ row. andThen (blob heap (methodSignature (sizesOf v) row)) (λ bytes. signature e bytes 0 .got)))
+      (method-row (optionsIn l) t strings heap m (omega (arith, rows-at laid 9 (omega arith))))
+
+  module _ {p : Part} {i : ℕ} (told : i ≡ cell t l 9 m) (looked : p ≡ blobAt heap i) where
+    looked-at : p ≡ blobAt heap (cell t l 9 m)
+    looked-at = looked ∙ ap (blobAt heap) told
+
+    pub no-blob : (b : List ℕ) {why : Absence} → p ≡ Absent why → ReadingIs v heap m (readBy v m c) b b Missing
+    no-blob b f = missing (by-class ∙ ap (λ (o : Option (List ℕ)). andThen o (λ bytes. signature e bytes 0 .got)) (blob-absent heap (cell t l 9 m) (sym f ∙ looked-at))) refl
+
+    module _ {start len : ℕ} (f : p ≡ Found start len) where
+      pub inside : start + len ≤ length heap
+      inside = blob-within heap (cell t l 9 m) (sym f ∙ looked-at)
+
+      of-part : readBy v m c ≡ signature e (part heap start len) 0 .got
+      of-part = by-class ∙ ap (λ (o : Option (List ℕ)). andThen o (λ bytes. signature e bytes 0 .got)) (blob-some heap (cell t l 9 m) (sym f ∙ looked-at))
+
+      module _ {sig : List ℕ} (is : sig ≡ part heap start len) (u : Uint) (counted : uintSays u ≡ methodStart sig 0) where
+        start-at : uintSays u ≡ methodStart (part heap start len) 0
+        start-at = rw is at counted
+
+        pub no-start : (b : List ℕ) {next : ℕ} → u ≡ NoNumber next → ReadingIs v heap m (readBy v m c) b b Missing
+        no-start b g = missing (of-part ∙ signature-cut e (part heap start len) (ap uintSays (sym g) ∙ start-at)) refl
+
+        module _ {n first : ℕ} (g : u ≡ Number n first) {b b′ : List ℕ} {r : Rendering}
+            (rendered : Rendered (type (envIn t l strings heap (Of (2 * (c + 2))) (Of (2 * (m + 1) + 1))) levels sig first) b 0 b′ r) where
+          here : Rendered (type e levels (part heap start len) first) b 0 b′ r
+          unfolding envIn
+          here = rw is at rendered
+
+          pub no-type : {next : ℕ} → r ≡ Failed next → ReadingIs v heap m (readBy v m c) b b′ Missing
+          no-type k =
+              let x = rendered-failed here k in
+              missing (of-part ∙ signature-unread e (part heap start len) (ap uintSays (sym g) ∙ start-at) (x .got)) (x .keeps .long)
+
+          pub signature-there : {end next : ℕ} → r ≡ Done end next → ReadingIs v heap m (readBy v m c) b b′ (Read (2 * (c + 2)) start len next n end)
+          signature-there k =
+              let x = rendered-done here k in
+              read (x .text) inside (of-part ∙ signature-read e (part heap start len) (ap uintSays (sym g) ∙ start-at) (x .got) (x .on)) (x .wrote)
+
+-- ---- Readings that were made
+
+module _ {v : View} {heap : List ℕ} {m : ℕ} {d : Option Signature} {b b′ : List ℕ} where
+  -- What was in the buffer before does not matter, only its length.
+  pub reading-length : {b₀ : List ℕ} {r : Reading} → length b ≡ length b₀ → ReadingIs v heap m d b b′ r → ReadingIs v heap m d b₀ b′ r
+  reading-length k (read {end = end} t i q w) =
+      read {end = end} t i q (record {
+        keeps = record { long = w .keeps .long ∙ k; kept = λ j z _. absurd (omega arith) };
+        place = omega (arith, w .place, k);
+        text = λ x. w .text (omega arith);
+      })
+  reading-length k (missing q n) = missing q (n ∙ k)
+
+  pub reading-as : {d′ : Option Signature} {r : Reading} → d′ ≡ d → ReadingIs v heap m d b b′ r → ReadingIs v heap m d′ b b′ r
+  reading-as e h = rw e h
+
+  missed : ReadingIs v heap m d b b′ Missing → (d ≡ none) × (length b′ ≡ length b)
+  missed (missing e n) = (e, n)
+
+  -- A reading that succeeded is whatever it stands for.
+  stands : {d′ : Option Signature} {owner start len next count end : ℕ} → ((s : Signature) → d ≡ some s → d′ ≡ some s)
+      → ReadingIs v heap m d b b′ (Read owner start len next count end) → ReadingIs v heap m d′ b b′ (Read owner start len next count end)
+  stands f (read t i e w) = read t i (f _ e) w
+
+  module _ {r : Reading} (h : ReadingIs v heap m d b b′ r) where
+    pub reading-missed : r ≡ Missing → (d ≡ none) × (length b′ ≡ length b)
+    reading-missed e = missed (subst (ReadingIs v heap m d b b′) e h)
+
+    pub reading-stands : {d′ : Option Signature} {owner start len next count end : ℕ} → ((s : Signature) → d ≡ some s → d′ ≡ some s)
+        → r ≡ Read owner start len next count end → ReadingIs v heap m d′ b b′ (Read owner start len next count end)
+    reading-stands f e = stands f (subst (ReadingIs v heap m d b b′) e h)
+
+-- ---- Within a class's methods
+
+module _ (v : View) (m c first end : ℕ) where
+  pub within-before : m < first → readWithin v m c first end ≡ none
+  unfolding readWithin
+  within-before h = rw (lt-leb first m h)
+
+  pub within-past : first ≤ m → end ≤ m → readWithin v m c first end ≡ none
+  unfolding readWithin
+  within-past h k = rw (le-leb first m h, le-ltb m end k)
+
+  pub within-inside : first ≤ m → m < end → readWithin v m c first end ≡ readBy v m c
+  unfolding readWithin
+  within-inside h k = rw (le-leb first m h, lt-ltb m end k)
+
+-- ---- The scan for the class whose reading stands
+
+or-either : {A : Type 0} (t : Bool) (a b : Option A) → cond t (orElse a b) b ≡ orElse (cond t a none) b
+or-either true a b = refl
+or-either false a b = refl
+
+or-none : {A : Type 0} (a : Option A) → orElse a none ≡ a
+or-none none = refl
+or-none (some x) = refl
+
+module _ (v : View) (m : ℕ) where
+  -- The pass over the classes from c on.
+  abbrev later : ℕ → Pass
+  later c = pass v m c (methodLists v c (classes v - c))
+
+  -- The signature is that of the class in hand, which has the methods from first on, or else what the classes from i on make of it.
+  abbrev pub Standing : ℕ → ℕ → ℕ → Type 0
+  Standing i c first = signatureOf v m ≡ orElse (readWithin v m c first (later i .end)) (later i .read)
+
+  pub stand-start : Standing 0 0 (m + 1)
+  unfolding signatureOf
+  stand-start = rw (within-before v m 0 (m + 1) (later 0 .end) (omega arith), sub-zero (classes v))
+
+  later-end : (i n : ℕ) → n ≡ 0 → pass v m i (methodLists v i n) ≡ record { end = rowsIn v methodDef; read = none }
+  unfolding pass tabulate
+  later-end i n e = rw e
+
+  later-more : (i n : ℕ) → pass v m i (methodLists v i (suc n)) ≡ handle m (numberIn v methodList (classRow v i)) (readBy v m i) (pass v m (i + 1) (methodLists v (i + 1) n))
+  unfolding pass tabulate
+  later-more i n = refl
+
+  module _ (i : ℕ) (h : i < classes v) {col : ℕ} (read : col ≡ numberIn v methodList (classRow v i)) where
+    later-step : later i ≡ handle m col (readBy v m i) (later (i + 1))
+    later-step =
+        let e : classes v - i ≡ suc (classes v - (i + 1)) = omega arith in
+        ap (λ (n : ℕ). pass v m i (methodLists v i n)) e ∙ later-more i (classes v - (i + 1))
+        ∙ ap (λ (x : ℕ). handle m x (readBy v m i) (later (i + 1))) (sym read)
+
+    later-skip : col ≡ 0 → later i ≡ later (i + 1)
+    unfolding handle
+    later-skip z = later-step ∙ rw (eq-eqb col 0 z)
+
+    later-handle : (col ≡ 0 → ⊥) → later i ≡ record {
+      end = col - 1;
+      read = cond (leb (col - 1) m && ltb m (later (i + 1) .end)) (orElse (readBy v m i) (later (i + 1) .read)) (later (i + 1) .read);
+    }
+    unfolding handle
+    later-handle z = later-step ∙ rw (ne-eqb col 0 z)
+
+    module _ (c first : ℕ) (inv : Standing i c first) where
+      pub stand-skip : col ≡ 0 → Standing (i + 1) c first
+      stand-skip z = rw (later-skip z) at inv
+
+      module _ (z : col ≡ 0 → ⊥) where
+        met : signatureOf v m ≡ orElse (readWithin v m c first (col - 1)) (later i .read)
+        met = inv ∙ ap (λ (p : Pass). orElse (readWithin v m c first (p .end)) (later i .read)) (later-handle z)
+
+        pub stand-read : (s : Signature) → readWithin v m c first (col - 1) ≡ some s → signatureOf v m ≡ some s
+        stand-read s r = met ∙ rw r
+
+        pub stand-next : readWithin v m c first (col - 1) ≡ none → Standing (i + 1) i (col - 1)
+        unfolding readWithin
+        stand-next r =
+            met ∙ ap (λ (o : Option Signature). orElse o (later i .read)) r ∙ ap (λ (p : Pass). p .read) (later-handle z)
+            ∙ or-either (leb (col - 1) m && ltb m (later (i + 1) .end)) (readBy v m i) (later (i + 1) .read)
+
+  pub stand-end : (i c first : ℕ) → classes v ≤ i → Standing i c first → signatureOf v m ≡ readWithin v m c first (rowsIn v methodDef)
+  stand-end i c first h inv =
+      let e = later-end i (classes v - i) (omega arith) in
+      inv ∙ ap (λ (p : Pass). orElse (readWithin v m c first (p .end)) (p .read)) e ∙ or-none (readWithin v m c first (rowsIn v methodDef))
+
+-- The columns that the scan reads.
+module _ {t l : List ℕ} (laid : Laid t l) (strings heap : List ℕ) where
+  pub class-rows : classes (viewIn t l strings heap) ≡ rowsAt l 6 - 1
+  unfolding classes viewOf
+  class-rows = ap (λ (n : ℕ). n - 1) (sym (rows-at laid 6 (omega arith)))
+
+  pub method-rows : rowsIn (viewIn t l strings heap) methodDef ≡ rowsAt l 9
+  unfolding viewOf
+  method-rows = sym (rows-at laid 9 (omega arith))
+
+  -- A turn of the scan, at a row of TypeDef from 0: the class there has the number before it.
+  module _ (m : ℕ) {row : ℕ} (z : 0 < row) (h : row < rowsAt l 6) {col : ℕ} (read : col ≡ cell t l 6 row) (c first : ℕ)
+      (inv : Standing (viewIn t l strings heap) m (row - 1) c first) where
+    abbrev w : View
+    w = viewIn t l strings heap
+
+    is-class : row - 1 < classes w
+    is-class = omega (arith, class-rows)
+
+    its-list : col ≡ numberIn w methodList (classRow w (row - 1))
+    unfolding viewOf
+    its-list =
+        let one : row - 1 + 1 ≡ row = omega arith in
+        read ∙ ap (cell t l 6) (sym one) ∙ sym (ap (numberIn w methodList) (class-row (optionsIn l) t strings heap (row - 1) is-class))
+
+    next-row : row - 1 + 1 ≡ row + 1 - 1
+    next-row = omega arith
+
+    pub turn-skip : col ≡ 0 → Standing w m (row + 1 - 1) c first
+    turn-skip e = subst (λ (i : ℕ). Standing w m i c first) next-row (stand-skip w m (row - 1) is-class its-list c first inv e)
+
+    pub turn-read : (col ≡ 0 → ⊥) → (s : Signature) → readWithin w m c first (col - 1) ≡ some s → signatureOf w m ≡ some s
+    turn-read n = stand-read w m (row - 1) is-class its-list c first inv n
+
+    pub turn-next : (col ≡ 0 → ⊥) → readWithin w m c first (col - 1) ≡ none → Standing w m (row + 1 - 1) (row + 1 - 2) (col - 1)
+    turn-next n r =
+        let e : row - 1 ≡ row + 1 - 2 = omega arith in
+        let next = stand-next w m (row - 1) is-class its-list c first inv n r in
+        subst (λ (i : ℕ). Standing w m i (row + 1 - 2) (col - 1)) next-row (subst (λ (k : ℕ). Standing w m (row - 1 + 1) k (col - 1)) e next)

@@ -1,0 +1,45 @@
+-- A method's signature (ECMA-335 II.23.2.1), read by a class as far as its return type. The types of its parameters are read on demand,
+-- from the position behind it.
+use mathlib.Core.Path.{_≡_}
+use mathlib.Core.Bool.{cond, _&&_}
+use mathlib.Core.List.{List, [], _∷_}
+use mathlib.Core.Option.{Option, none, some}
+use Prim.Native.Nat.{ℕ, zero, suc, _+_, _≤_}
+use lib.Dec.{leb, ltb}
+use lib.ListN.{length}
+use Rattle.numbers.specs.Reading.{Reader}
+use Rattle.numbers.specs.Parts.{part}
+use Rattle.buffers.specs.Texts.{Text}
+use Rattle.buffers.specs.Writes.{Wrote}
+use Rattle.record.specs.View.{View}
+use Rattle.record.specs.Types.{type}
+use Rattle.record.specs.Names.{env, levels, methodGenerics}
+use Rattle.record.specs.Methods.{Signature, readBy}
+use Rattle.method_signatures.specs.declared.Reading.{Reading}
+use Rattle.method_signatures.specs.declared.Reading.the-variants.{Read, Missing}
+
+-- A type in method m's signature, as a class reads it that is this owner of generic parameters.
+abbrev pub typeBy : View → ℕ → ℕ → Reader Text
+typeBy v m owner = type (env v (v .generics owner) (methodGenerics v m)) levels
+
+-- The types of n parameters from a position on. One that fails is missing, and the reading goes on after the bytes it took.
+unfoldable pub typesFrom : Reader Text → ℕ → List ℕ → ℕ → List (Option Text)
+typesFrom type zero s at = []
+typesFrom type (suc n) s at = type s at .got ∷ typesFrom type n s (type s at .next)
+
+-- The position behind them.
+unfoldable pub behind : Reader Text → ℕ → List ℕ → ℕ → ℕ
+behind type zero s at = at
+behind type (suc n) s at = behind type n s (type s at .next)
+
+-- What class c makes of method m's signature if it reads the methods from its first up to an end.
+unfoldable pub readWithin : View → ℕ → ℕ → ℕ → ℕ → Option Signature
+readWithin v m c first end = cond (leb first m && ltb m end) (readBy v m c) none
+
+-- From the buffer b to b′, r is the reading d of method m's signature: the return type was written, and the parameters' types follow in
+-- that part of the blob heap, as that owner's class reads them; or there is no reading, and in the buffer may be anything.
+pub data ReadingIs (v : View) (heap : List ℕ) (m : ℕ) (d : Option Signature) (b b′ : List ℕ) : Reading → Type 0 where
+  read : {owner start len next count end : ℕ} (t : Text) → start + len ≤ length heap
+      → d ≡ some (record { returns = t; parameters = typesFrom (typeBy v m owner) count (part heap start len) next })
+      → Wrote b 0 t b′ end → ReadingIs v heap m d b b′ (Read owner start len next count end)
+  missing : d ≡ none → length b′ ≡ length b → ReadingIs v heap m d b b′ Missing

@@ -1,0 +1,408 @@
+// The signatures of methods (ECMA-335 II.23.2.1): whose reading of a method's signature stands (`finalize`, its first pass), the return
+// type that it finds, and the types of the parameters behind it.
+use buffers::Place;
+use buffers::Refusal;
+use buffers::Reply;
+use heaps::Part;
+use numbers::Uint;
+use rendering::Rendering;
+use rows::Layout;
+use rows::columns;
+use sig_leaves::LEVELS;
+use sig_leaves::Owner;
+ghost use mathlib.Core.Path.{_≡_};
+ghost use mathlib.Core.List.{List};
+ghost use Prim.Native.Nat.{ℕ, _<_};
+ghost use lib.ListN.{length};
+ghost use Rattle.buffers.specs.Writes.{Said, placeSays};
+ghost use Rattle.buffers.specs.Replies.{nameOr5, Named};
+ghost use Rattle.record.specs.Types.{type};
+ghost use Rattle.record.specs.Methods.{readBy, signatureOf, parameterName};
+ghost use Rattle.record.specs.Record.{method};
+ghost use Rattle.record.specs.Answers.{_⟫_, item};
+ghost use Rattle.rows.specs.Layout.{Laid, rowsAt, viewIn};
+ghost use Rattle.signatures.specs.Environment.{envIn};
+ghost use Rattle.method_signatures.specs.Signatures.{behind, readWithin, ReadingIs};
+
+// A method's signature as a class reads it: the class as an owner of generic parameters, where in the blob heap the signature stands, the
+// position behind the return type, the number of parameters, and the place behind the return type's text in the buffer.
+pub enum Reading {
+    Read {
+        owner: usize,
+        start: usize,
+        len: usize,
+        next: usize,
+        count: u32,
+        end: usize,
+    },
+    Missing,
+}
+
+// Class c's reading of method m's signature, both from 0.
+fn read_by(
+    buf: &mut [u8],
+    tables: &[u8],
+    strings: &[u8],
+    blob: &[u8],
+    layout: &Layout,
+    m: usize,
+    class: usize,
+) -> Reading
+    requires { ⌜ Laid (now tables) (now layout) ⌝ }
+    requires { ⌜ (m < rowsAt (now layout) 9) × (class < 4294967296) ⌝ }
+    ensures { λ r. ⌜ ReadingIs (viewIn (now (tables .entry)) (now (layout .entry)) (now (strings .entry)) (now (blob .entry))) (now (blob .entry)) m (readBy (viewIn (now (tables .entry)) (now (layout .entry)) (now (strings .entry)) (now (blob .entry))) m class) (now (buf .entry)) (now (buf .exit)) r ⌝ }
+{
+    let index = rows::read_column(tables, layout, columns::METHOD_SIGNATURE, m);
+    match heaps::get_blob(blob, index as usize) {
+        Part::Found { start, len } => {
+            let sig = numbers::cut(blob, start, len);
+            let owner = 2 * (class + 2);
+            match sig_leaves::read_method_start(sig, 0) {
+                Uint::Number(count, first) => {
+                    match signatures::parse_sig_type(
+                        buf,
+                        0,
+                        tables,
+                        strings,
+                        blob,
+                        layout,
+                        Owner::Of(owner),
+                        Owner::Of(2 * (m + 1) + 1),
+                        sig,
+                        first,
+                        LEVELS,
+                    ) {
+                        Rendering::Done(end, next) => Reading::Read {
+                            owner,
+                            start,
+                            len,
+                            next,
+                            count,
+                            end,
+                        },
+                        Rendering::Failed(_) => Reading::Missing,
+                    }
+                }
+                Uint::NoNumber(_) => Reading::Missing,
+            }
+        }
+        Part::Absent(_) => Reading::Missing,
+    }
+}
+
+// The same if the methods from first up to an end, which the class reads, have m.
+fn read_within(
+    buf: &mut [u8],
+    tables: &[u8],
+    strings: &[u8],
+    blob: &[u8],
+    layout: &Layout,
+    m: usize,
+    class: usize,
+    first: usize,
+    end: usize,
+) -> Reading
+    requires { ⌜ Laid (now tables) (now layout) ⌝ }
+    requires { ⌜ (m < rowsAt (now layout) 9) × (class < 4294967296) ⌝ }
+    ensures { λ r. ⌜ ReadingIs (viewIn (now (tables .entry)) (now (layout .entry)) (now (strings .entry)) (now (blob .entry))) (now (blob .entry)) m (readWithin (viewIn (now (tables .entry)) (now (layout .entry)) (now (strings .entry)) (now (blob .entry))) m class first end) (now (buf .entry)) (now (buf .exit)) r ⌝ }
+{
+    if m < first {
+        return Reading::Missing;
+    }
+    if end <= m {
+        return Reading::Missing;
+    }
+    read_by(buf, tables, strings, blob, layout, m, class)
+}
+
+// The signature of method m: of the classes that read it the lowest whose reading succeeds. A class reads from its first method up to that
+// of the next class whose MethodList column is not 0, so each is tried once that one is met.
+pub fn read_signature(
+    buf: &mut [u8],
+    tables: &[u8],
+    strings: &[u8],
+    blob: &[u8],
+    layout: &Layout,
+    m: usize,
+) -> Reading
+    requires { ⌜ Laid (now tables) (now layout) ⌝ }
+    requires { ⌜ m < rowsAt (now layout) 9 ⌝ }
+    ensures { λ r. ⌜ ReadingIs (viewIn (now (tables .entry)) (now (layout .entry)) (now (strings .entry)) (now (blob .entry))) (now (blob .entry)) m (signatureOf (viewIn (now (tables .entry)) (now (layout .entry)) (now (strings .entry)) (now (blob .entry))) m) (now (buf .entry)) (now (buf .exit)) r ⌝ }
+{
+    let n = rows::count_rows(layout, columns::METHOD_LIST);
+    let mut class = 0;
+    let mut first = m + 1;
+    let mut row = 1;
+    while row < n {
+        let column = rows::read_column(tables, layout, columns::METHOD_LIST, row) as usize;
+        row += 1;
+        if column != 0 {
+            match read_within(
+                buf,
+                tables,
+                strings,
+                blob,
+                layout,
+                m,
+                class,
+                first,
+                column - 1,
+            ) {
+                Reading::Read {
+                    owner,
+                    start,
+                    len,
+                    next,
+                    count,
+                    end,
+                } => {
+                    return Reading::Read {
+                        owner,
+                        start,
+                        len,
+                        next,
+                        count,
+                        end,
+                    };
+                }
+                Reading::Missing => {
+                    class = row - 2;
+                    first = column - 1;
+                }
+            }
+        }
+    }
+    let all = rows::count_rows(layout, columns::METHOD_SIGNATURE);
+    read_within(buf, tables, strings, blob, layout, m, class, first, all)
+}
+
+// Answer a call for the return type of method m.
+pub fn write_return_type(
+    buf: &mut [u8],
+    tables: &[u8],
+    strings: &[u8],
+    blob: &[u8],
+    layout: &Layout,
+    m: usize,
+) -> Reply
+    requires { ⌜ Laid (now tables) (now layout) ⌝ }
+    requires { ⌜ m < rowsAt (now layout) 9 ⌝ }
+    ensures { λ r. ⌜ Named (nameOr5 (method (viewIn (now (tables .entry)) (now (layout .entry)) (now (strings .entry)) (now (blob .entry))) m .returns)) (now (buf .entry)) r (now (buf .exit)) ⌝ }
+{
+    match read_signature(buf, tables, strings, blob, layout, m) {
+        Reading::Read { end, .. } => buffers::finish(buf, end),
+        Reading::Missing => buffers::refuse(buf, Refusal::NoName),
+    }
+}
+
+// How many parameters method m has. The text of its return type goes to a buffer of one byte, since only its length is counted.
+pub fn count_params(tables: &[u8], strings: &[u8], blob: &[u8], layout: &Layout, m: usize) -> usize
+    requires { ⌜ Laid (now tables) (now layout) ⌝ }
+    requires { ⌜ m < rowsAt (now layout) 9 ⌝ }
+    ensures { λ r. ⌜ r ≡ length (method (viewIn (now (tables .entry)) (now (layout .entry)) (now (strings .entry)) (now (blob .entry))) m .parameters) ⌝ }
+{
+    let mut space = [0u8; 1];
+    match read_signature(&mut space, tables, strings, blob, layout, m) {
+        Reading::Read { count, .. } => count as usize,
+        Reading::Missing => 0,
+    }
+}
+
+// The position behind the types of so many parameters.
+fn skip_types(
+    buf: &mut [u8],
+    tables: &[u8],
+    strings: &[u8],
+    blob: &[u8],
+    layout: &Layout,
+    class: Owner,
+    method: Owner,
+    sig: &[u8],
+    pos: usize,
+    count: usize,
+) -> usize
+    requires { ⌜ Laid (now tables) (now layout) ⌝ }
+    ensures { λ r. ⌜ (r ≡ behind (type (envIn (now (tables .entry)) (now (layout .entry)) (now (strings .entry)) (now (blob .entry)) class method) 17) count (now (sig .entry)) pos) × (length (now (buf .exit)) ≡ length (now (buf .entry))) ⌝ }
+{
+    let mut p = pos;
+    let mut i = 0;
+    while i < count {
+        i += 1;
+        match signatures::parse_sig_type(
+            buf,
+            0,
+            tables,
+            strings,
+            blob,
+            layout,
+            class,
+            method,
+            sig,
+            p,
+            LEVELS,
+        ) {
+            Rendering::Done(_, next) => {
+                p = next;
+            }
+            Rendering::Failed(next) => {
+                p = next;
+            }
+        }
+    }
+    p
+}
+
+// Answer a call for the type that so many types stand before.
+fn write_type(
+    buf: &mut [u8],
+    tables: &[u8],
+    strings: &[u8],
+    blob: &[u8],
+    layout: &Layout,
+    class: Owner,
+    method: Owner,
+    sig: &[u8],
+    pos: usize,
+    before: usize,
+) -> Reply
+    requires { ⌜ Laid (now tables) (now layout) ⌝ }
+    ensures { λ r. ⌜ Named (nameOr5 (type (envIn (now (tables .entry)) (now (layout .entry)) (now (strings .entry)) (now (blob .entry)) class method) 17 (now (sig .entry)) (behind (type (envIn (now (tables .entry)) (now (layout .entry)) (now (strings .entry)) (now (blob .entry)) class method) 17) before (now (sig .entry)) pos) .got)) (now (buf .entry)) r (now (buf .exit)) ⌝ }
+{
+    let at = skip_types(
+        buf,
+        tables,
+        strings,
+        blob,
+        layout,
+        class,
+        method,
+        sig,
+        pos,
+        before,
+    );
+    match signatures::parse_sig_type(
+        buf,
+        0,
+        tables,
+        strings,
+        blob,
+        layout,
+        class,
+        method,
+        sig,
+        at,
+        LEVELS,
+    ) {
+        Rendering::Done(end, _) => buffers::finish(buf, end),
+        Rendering::Failed(_) => buffers::refuse(buf, Refusal::NoName),
+    }
+}
+
+// Answer a call for the type of parameter p of method m.
+pub fn write_param_type(
+    buf: &mut [u8],
+    tables: &[u8],
+    strings: &[u8],
+    blob: &[u8],
+    layout: &Layout,
+    m: usize,
+    p: u32,
+) -> Reply
+    requires { ⌜ Laid (now tables) (now layout) ⌝ }
+    requires { ⌜ m < rowsAt (now layout) 9 ⌝ }
+    ensures { λ r. ⌜ Named (item (method (viewIn (now (tables .entry)) (now (layout .entry)) (now (strings .entry)) (now (blob .entry))) m .parameters) p ⟫ (λ k. nameOr5 (k .type))) (now (buf .entry)) r (now (buf .exit)) ⌝ }
+{
+    match read_signature(buf, tables, strings, blob, layout, m) {
+        Reading::Read {
+            owner,
+            start,
+            len,
+            next,
+            count,
+            ..
+        } => {
+            if count <= p {
+                return buffers::refuse(buf, Refusal::NoSuchRow);
+            }
+            let sig = numbers::cut(blob, start, len);
+            write_type(
+                buf,
+                tables,
+                strings,
+                blob,
+                layout,
+                Owner::Of(owner),
+                Owner::Of(2 * (m + 1) + 1),
+                sig,
+                next,
+                p as usize,
+            )
+        }
+        Reading::Missing => buffers::refuse(buf, Refusal::NoSuchRow),
+    }
+}
+
+// Append the name of parameter p of method m (II.22.33, `parse_params`): none where the method has no ParamList column.
+fn push_param_name(
+    buf: &mut [u8],
+    tables: &[u8],
+    strings: &[u8],
+    layout: &Layout,
+    m: usize,
+    p: u32,
+) -> Place
+    requires { ⌜ Laid (now tables) (now layout) ⌝ }
+    requires { ⌜ m < rowsAt (now layout) 10 ⌝ }
+    ensures { λ r. ⌜ ((blob : List ℕ) → Said (now (buf .entry)) 0 (now (buf .exit)) (parameterName (viewIn (now (tables .entry)) (now (layout .entry)) (now (strings .entry)) blob) m p) (placeSays r)) ⌝ }
+{
+    let first = rows::read_column(tables, layout, columns::PARAM_LIST, m) as usize;
+    let place = p as usize;
+    if first == 0 {
+        return Place::Missing;
+    }
+    if rows::count_rows(layout, columns::PARAM_NAME) < first + place {
+        let end = buffers::push(buf, 0, b"P_");
+        return Place::Next(buffers::push_decimal(buf, end, place));
+    }
+    match rows::read_string(
+        tables,
+        strings,
+        layout,
+        columns::PARAM_NAME,
+        first + place - 1,
+    ) {
+        Part::Found { start, len } => {
+            let name = numbers::cut(strings, start, len);
+            Place::Next(buffers::push(buf, 0, name))
+        }
+        Part::Absent(_) => Place::Next(0),
+    }
+}
+
+// Answer a call for the name of parameter p of method m.
+pub fn write_param_name(
+    buf: &mut [u8],
+    tables: &[u8],
+    strings: &[u8],
+    blob: &[u8],
+    layout: &Layout,
+    m: usize,
+    p: u32,
+) -> Reply
+    requires { ⌜ Laid (now tables) (now layout) ⌝ }
+    requires { ⌜ m < rowsAt (now layout) 9 ⌝ }
+    ensures { λ r. ⌜ Named (item (method (viewIn (now (tables .entry)) (now (layout .entry)) (now (strings .entry)) (now (blob .entry))) m .parameters) p ⟫ (λ k. nameOr5 (k .name))) (now (buf .entry)) r (now (buf .exit)) ⌝ }
+{
+    match read_signature(buf, tables, strings, blob, layout, m) {
+        Reading::Read { count, .. } => {
+            if count <= p {
+                return buffers::refuse(buf, Refusal::NoSuchRow);
+            }
+            match push_param_name(buf, tables, strings, layout, m, p) {
+                Place::Next(end) => buffers::finish(buf, end),
+                Place::Missing => buffers::refuse(buf, Refusal::NoName),
+            }
+        }
+        Reading::Missing => buffers::refuse(buf, Refusal::NoSuchRow),
+    }
+}
