@@ -1,4 +1,4 @@
-"""The oracle, asked case by case; the inputs that `generate` makes; the cases that `record` writes."""
+"""The oracle and other programs, asked case by case; the inputs that `generate` makes; the cases that `record` writes."""
 
 import os
 import re
@@ -14,28 +14,30 @@ SECONDS = 2
 MEMORY = 4 << 30
 
 
-class Oracle:
-    """A running oracle that is asked case by case, and started anew after one that it cannot answer."""
+class Batch:
+    """A running program that is asked case by case, and started anew after one that it cannot answer. Cases and answers stand after their
+    lengths, 4 bytes, little-endian."""
 
-    def __init__(self, options):
-        self.command = [ORACLE, "--check", *options, "--batch", "/dev/stdin"]
+    def __init__(self, command, prepare):
+        self.command, self.prepare = command, prepare
         self.start()
 
     def start(self):
         self.process = subprocess.Popen(self.command, bufsize=0, stdin=subprocess.PIPE, stdout=subprocess.PIPE,
-                                        stderr=subprocess.DEVNULL, preexec_fn=limit_memory)
+                                        stderr=subprocess.DEVNULL, preexec_fn=self.prepare)
 
     def end(self):
         self.process.kill()
         self.process.communicate()
 
-    def ask(self, case):
-        """The answer, or None where there is none within the limits of time, memory and stack."""
-        self.deadline = time.monotonic() + SECONDS
+    def ask(self, case, seconds=SECONDS):
+        """The answer, or None where there is none within the limits of time, memory and stack; `late` then says if it was time."""
+        self.deadline = time.monotonic() + seconds
         try:
             self.process.stdin.write(length(case) + case)
             return self.read(int.from_bytes(self.read(4), "little"))
-        except (BrokenPipeError, EOFError, TimeoutError):
+        except (BrokenPipeError, EOFError, TimeoutError) as error:
+            self.late = isinstance(error, TimeoutError)
             self.end()
             self.start()
             return None
@@ -52,6 +54,11 @@ class Oracle:
                 raise EOFError
             data += more
         return data
+
+
+class Oracle(Batch):
+    def __init__(self, options):
+        super().__init__([ORACLE, "--check", *options, "--batch", "/dev/stdin"], limit_memory)
 
 
 def limit_memory():

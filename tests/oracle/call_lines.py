@@ -2,7 +2,7 @@
 
 import sys
 
-from asking import Oracle, streams
+from asking import SECONDS, Oracle, streams
 from assembly import METHOD_DEF, TYPE_DEF, bundle
 
 # A longer name is left out: the program's buffer has two bytes more.
@@ -12,21 +12,21 @@ LAST = 0xFFFFFFFF
 
 
 class Records:
-    """The Rust's records. Where it panics, a class names a first method past the end. Document 01 has us stop at the
-    last method then: no class takes other methods if that column is lowered to just after the last one, so the record of the lowered
-    streams is taken, in which the Rust does not panic."""
+    """The Rust's records, or its answers with other options. Where it panics, a class names a first method past the end. Document 01 has
+    us stop at the last method then: no class takes other methods if that column is lowered to just after the last one, so the record of
+    the lowered streams is taken, in which the Rust does not panic."""
 
-    def __init__(self):
-        self.oracle, self.walker = Oracle(["--record"]), Oracle(["--extents"])
+    def __init__(self, options=("--record",)):
+        self.oracle, self.walker = Oracle(options), Oracle(["--extents"])
         self.panics = 0
 
-    def ask(self, case):
+    def ask(self, case, seconds=SECONDS):
         """The record of an input, or None where the Rust gives none in time."""
-        record = self.oracle.ask(case)
+        record = self.oracle.ask(case, seconds)
         if record == b"panic\n":
             self.panics += 1
             tables, *heaps = streams(case)
-            record = self.oracle.ask(bundle(lowered(tables, self.walker.ask(case)), *heaps))
+            record = self.oracle.ask(bundle(lowered(tables, self.walker.ask(case)), *heaps), seconds)
         if record in (b"panic\n", b"inconsistent\n"):
             sys.exit("no record of the input %s: %s" % (case.hex(), record.decode()))
         return record

@@ -1,0 +1,48 @@
+"""The archive that C programs link, and the C programs of this folder linked with it."""
+
+import os
+import shutil
+import subprocess
+import sys
+
+HERE = os.path.dirname(os.path.abspath(__file__))
+ROOT = os.path.dirname(os.path.dirname(HERE))
+ARCHIVE = os.path.join(ROOT, "target", "staticlib", "libdotnet_c.a")
+OUT = os.path.join(ROOT, "target", "c")
+
+
+def fail(text):
+    print("tests/fuzz: " + text, file=sys.stderr)
+    sys.exit(2)
+
+
+def install(*packages):
+    print("tests/fuzz: installing " + " ".join(packages), file=sys.stderr)
+    settings = dict(os.environ, DEBIAN_FRONTEND="noninteractive")
+    for words in (["update"], ["install", "-y", "--no-install-recommends", *packages]):
+        command = ["apt-get", "-qq", *words]
+        if not shutil.which("apt-get") or subprocess.run(command, stdout=sys.stderr, env=settings, check=False).returncode:
+            fail("cannot install " + " ".join(packages))
+
+
+def make_archive(archive):
+    if os.path.exists(archive):
+        return
+    if archive != ARCHIVE or not shutil.which("rt"):
+        fail("there is no %s: rt staticlib dotnet_c makes it" % os.path.relpath(archive))
+    if subprocess.run(["rt", "staticlib", "dotnet_c"], cwd=ROOT, stdout=sys.stderr, check=False).returncode:
+        fail("rt staticlib dotnet_c made no archive")
+
+
+def compiled(name, archive=ARCHIVE):
+    """A program of this folder, compiled and linked: its path."""
+    make_archive(archive)
+    if not shutil.which("cc"):
+        install("gcc", "libc6-dev")
+    os.makedirs(OUT, exist_ok=True)
+    program = os.path.join(OUT, name)
+    source = os.path.join(HERE, name + ".c")
+    command = ["cc", "-O2", "-Wall", "-Wextra", "-I", os.path.join(ROOT, "include"), "-o", program, source, archive]
+    if subprocess.run(command, check=False).returncode:
+        fail("%s cannot be compiled" % source)
+    return program

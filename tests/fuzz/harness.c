@@ -1,0 +1,416 @@
+/* The compiled calls, under inputs and buffers of every kind. What a proof says of them is seen here in the archive that users link.
+
+     harness lengths SEEDS         every call for a name, with buffers of every length from 0 to two past the name, filled with 0x00, 0xAA
+                                   and 0xFF: one reply, and the same bytes afterwards
+     harness inputs SEEDS N SEED   N inputs, made from the seeds by mutation or from nothing: every call, with numbers inside and outside
+
+   SEEDS is a file of inputs of the listing program, each after a 4-byte little-endian length. Every stream ends where memory ends, the
+   buffer too, and before the buffer stand bytes that must stay. Exit status: 0 all well, 1 something is wrong, 2 no seeds or no memory. */
+#define _GNU_SOURCE
+#include <setjmp.h>
+#include <signal.h>
+#include <stdio.h>
+#include <stdlib.h>
+#include <string.h>
+#include <sys/mman.h>
+#include <sys/resource.h>
+#include <sys/time.h>
+#include <time.h>
+#include <unistd.h>
+#include "calls.h"
+
+#define MOST 65536           /* bytes of an input */
+#define ROOM (1 << 20)       /* bytes of the largest buffer */
+#define CANARY 64            /* bytes before the buffer */
+#define STACK (1ul << 30)
+#define TICK 50000           /* microseconds */
+#define TICKS_A_CALL 6
+
+enum { SHORT_HEADER = 1, SHORT_COUNTS, TOO_MANY_ROWS, NO_SUCH_ROW, NO_NAME, BUFFER_TOO_SMALL };
+
+/* ---- memory that ends where it must */
+
+struct region { uint8_t *start, *end; };
+
+static struct region region_of(size_t size) {
+    size_t page = (size_t)sysconf(_SC_PAGESIZE), whole = (size + page - 1) / page * page;
+    uint8_t *at = mmap(0, whole + page, PROT_READ | PROT_WRITE, MAP_PRIVATE | MAP_ANONYMOUS, -1, 0);
+    if (at == MAP_FAILED || mprotect(at + whole, page, PROT_NONE)) {
+        fprintf(stderr, "fuzz: no memory\n");
+        exit(2);
+    }
+    return (struct region){ at, at + whole };
+}
+
+static struct region streams[3], lent;
+static uint8_t copy[3][MOST];   /* of the streams, to see that they are only read */
+static size_t lengths[3];
+static struct input input;
+
+/* Places the three streams, from `copy`. */
+static void place(void) {
+    struct dotnet_bytes *to[3] = { &input.tables, &input.strings, &input.blob };
+    for (int i = 0; i < 3; i++) {
+        *to[i] = (struct dotnet_bytes){ streams[i].end - lengths[i], lengths[i] };
+        memcpy(streams[i].end - lengths[i], copy[i], lengths[i]);
+    }
+}
+
+static int are_unchanged(void) {
+    for (int i = 0; i < 3; i++)
+        if (memcmp(streams[i].end - lengths[i], copy[i], lengths[i])) return 0;
+    return 1;
+}
+
+/* ---- what is wrong, and what takes too long */
+
+static unsigned long asked, wrong, slow;
+static const struct call *current;
+static uint32_t current_rows[3];
+static volatile sig_atomic_t ticks, armed;
+static sigjmp_buf too_long;
+
+static void save_input(const char *why) {
+    char path[64];
+    static int saved;
+    if (saved++ >= 20) return;
+    snprintf(path, sizeof path, "%s-%d-%d.in", why, (int)getpid(), saved);
+    FILE *file = fopen(path, "wb");
+    if (!file) return;
+    fprintf(file, "tables=%zu\nstrings=%zu\nblob=%zu\n", lengths[0], lengths[1], lengths[2]);
+    for (int i = 0; i < 3; i++) fwrite(copy[i], 1, lengths[i], file);
+    fclose(file);
+    fprintf(stderr, "fuzz: the input: %s\n", path);
+}
+
+static void report(const char *what) {
+    if (wrong++ < 20) {
+        fprintf(stderr, "wrong: %s %u %u %u: %s\n", current->name, current_rows[0], current_rows[1], current_rows[2], what);
+        save_input("wrong");
+    }
+}
+
+static void on_tick(int number) {
+    (void)number;
+    if (armed && ++ticks > TICKS_A_CALL) {
+        armed = 0;
+        siglongjmp(too_long, 1);
+    }
+}
+
+static void on_fault(int number) {
+    report(number == SIGSEGV ? "a read or a write out of place, or a stack that overflows" : "a trap");
+    _exit(1);
+}
+
+static void catch_signals(void) {
+    stack_t other = { .ss_sp = malloc(1 << 16), .ss_size = 1 << 16 };
+    sigaltstack(&other, 0);
+    struct sigaction fault = { .sa_handler = on_fault, .sa_flags = SA_ONSTACK }, tick = { .sa_handler = on_tick, .sa_flags = SA_RESTART };
+    sigaction(SIGSEGV, &fault, 0), sigaction(SIGBUS, &fault, 0), sigaction(SIGILL, &fault, 0), sigaction(SIGFPE, &fault, 0);
+    sigaction(SIGALRM, &tick, 0);
+    struct itimerval every = { { 0, TICK }, { 0, TICK } };
+    setitimer(ITIMER_REAL, &every, 0);
+}
+
+/* ---- asking */
+
+static struct dotnet_reply ask(int call, const uint32_t *rows, struct dotnet_buffer buffer) {
+    current = &calls[call];
+    memcpy(current_rows, rows, sizeof current_rows);
+    asked++, ticks = 0, armed = 1;
+    struct dotnet_reply reply = current->ask(&input, rows, buffer);
+    armed = 0;
+    return reply;
+}
+
+static const struct dotnet_buffer no_buffer;
+
+/* How many there are, or 0. */
+static uint64_t count(int call, const uint32_t *rows) {
+    struct dotnet_reply reply = ask(call, rows, no_buffer);
+    return reply.no ? 0 : reply.value;
+}
+
+static struct dotnet_buffer buffer_of(size_t length, int fill) {
+    memset(lent.end - length - CANARY, 0x5C, CANARY);
+    memset(lent.end - length, fill, length);
+    return (struct dotnet_buffer){ lent.end - length, length };
+}
+
+static int is_zero(const uint8_t *at, size_t length) {
+    return length == 0 || (at[0] == 0 && !memcmp(at, at + 1, length - 1));
+}
+
+/* Asks for a name, and looks at the whole buffer and at what stands before it. */
+static struct dotnet_reply ask_name(int call, const uint32_t *rows, size_t length, int fill) {
+    struct dotnet_buffer buffer = buffer_of(length, fill);
+    struct dotnet_reply reply = ask(call, rows, buffer);
+    for (int i = 1; i <= CANARY; i++)
+        if (buffer.at[-i] != 0x5C) { report("bytes before the buffer are written"); break; }
+    if (reply.no ? reply.value : reply.value > length) report("a length that cannot be");
+    else if (!is_zero(buffer.at + reply.value, length - reply.value)) report("bytes that are not zero after the name");
+    return reply;
+}
+
+static int same(struct dotnet_reply a, struct dotnet_reply b) { return a.no == b.no && a.value == b.value; }
+
+/* ---- seeds */
+
+static struct seed { uint8_t *at[3]; size_t length[3]; } *seeds;
+static size_t seed_count;
+
+/* Cuts an input into its streams; 0 where it is malformed. */
+static int cut_input(uint8_t *data, size_t length, struct seed *to) {
+    char head[64] = { 0 };
+    int end = 0;
+    memcpy(head, data, length < 63 ? length : 63);
+    if (sscanf(head, "tables=%zu\nstrings=%zu\nblob=%zu%n", &to->length[0], &to->length[1], &to->length[2], &end) != 3) return 0;
+    uint8_t *at = data + end + 1;
+    for (int i = 0; i < 3; at += to->length[i++]) {
+        if (to->length[i] > MOST) return 0;
+        to->at[i] = at;
+    }
+    return at == data + length && length <= MOST;
+}
+
+static void read_seeds(const char *path) {
+    FILE *file = fopen(path, "rb");
+    uint32_t length;
+    while (file && fread(&length, 4, 1, file) == 1) {
+        uint8_t *data = malloc(length + 1ul);
+        if (!data || fread(data, 1, length, file) != length) break;
+        seeds = realloc(seeds, (seed_count + 1) * sizeof *seeds);
+        seed_count += (size_t)cut_input(data, length, &seeds[seed_count]);
+    }
+    if (!seed_count) {
+        fprintf(stderr, "fuzz: no seeds in %s\n", path);
+        exit(2);
+    }
+}
+
+static void take(const struct seed *seed) {
+    for (int i = 0; i < 3; i++) {
+        lengths[i] = seed->length[i];
+        memcpy(copy[i], seed->at[i], lengths[i]);
+    }
+}
+
+/* ---- lengths */
+
+static void check_lengths(int call, const uint32_t *rows) {
+    static uint8_t name[ROOM];
+    struct dotnet_reply whole = ask_name(call, rows, ROOM, 0);
+    size_t n = whole.no ? 0 : whole.value;
+    memcpy(name, lent.end - ROOM, n);
+    for (size_t length = 0; length <= n + 2 && length <= ROOM; length++) {
+        if (n > 600 && length > 64 && length + 64 < n) length = n - 64;
+        struct dotnet_reply expected = whole;
+        if (!whole.no && length < n) expected = (struct dotnet_reply){ BUFFER_TOO_SMALL, 0 };
+        for (int fill = 0; fill < 3; fill++) {
+            struct dotnet_reply reply = ask_name(call, rows, length, (const int[]){ 0x00, 0xAA, 0xFF }[fill]);
+            if (!same(reply, expected)) report("another reply for another length or filling");
+            else if (!reply.no && memcmp(lent.end - length, name, n)) report("another name for another length or filling");
+        }
+    }
+}
+
+/* All numbers of a call, and one past each end. */
+static void each_row(int call, int depth, uint32_t *rows) {
+    if (depth == calls[call].rows) {
+        check_lengths(call, rows);
+        return;
+    }
+    uint64_t n = count(calls[call].counted_by[depth], rows);
+    for (uint64_t i = 0; i <= n; i++) {
+        if (i > 30 && i < n) i = n;
+        rows[depth] = (uint32_t)i;
+        each_row(call, depth + 1, rows);
+    }
+    rows[depth] = 0xFFFFFFFF;
+    each_row(call, calls[call].rows, rows);
+    rows[depth] = 0;
+}
+
+static void run_lengths(void) {
+    static size_t i; /* static: it outlives a call that takes too long */
+    for (i = 0; i < seed_count; i++) {
+        if (sigsetjmp(too_long, 1)) { slow++, save_input("slow"); continue; }
+        take(&seeds[i]), place();
+        for (int call = 0; call < CALLS; call++) {
+            uint32_t rows[3] = { 0, 0, 0 };
+            if (calls[call].is_name) each_row(call, 0, rows);
+        }
+        if (!are_unchanged()) report("a stream is changed");
+    }
+}
+
+/* ---- inputs */
+
+static uint64_t state;
+
+static uint64_t chance(void) { /* xorshift64* */
+    state ^= state >> 12, state ^= state << 25, state ^= state >> 27;
+    return state * 0x2545F4914F6CDD1Dull >> 16;
+}
+
+static size_t below(size_t n) { return n ? chance() % n : 0; }
+
+static size_t room_left(void) { return MOST - 64 - lengths[0] - lengths[1] - lengths[2]; }
+
+static void mutate(int i) {
+    size_t n = lengths[i], at = below(n), other = below(n), size = (const size_t[]){ 1, 2, 4, 8, 14, 60 }[below(6)];
+    uint8_t *s = copy[i];
+    switch (below(12)) {
+    case 0: case 1: case 2: if (n) s[at] = (uint8_t)chance(); break;
+    case 3: case 4: if (n) s[at] ^= (uint8_t)(1 << below(8)); break;
+    case 5: if (n) s[at] = (const uint8_t[]){ 0, 1, 0x12, 0x15, 0x1B, 0x1D, 0x7F, 0x80, 0xFF }[below(9)]; break;
+    case 6: if (n) s[at] = s[other]; break;
+    case 7: lengths[i] = at; break;
+    case 8: if (n >= size) memmove(s + below(n - size + 1), s + below(n - size + 1), size); break;
+    case 9: /* a piece taken out */
+        if (at + size < n) memmove(s + at, s + at + size, n - at - size), lengths[i] -= size;
+        break;
+    case 10: /* a piece put in */
+        if (room_left() > size && n + size < MOST) {
+            memmove(s + at + size, s + at, n - at), lengths[i] += size;
+            for (size_t k = 0; k < size; k++) s[at + k] = (uint8_t)chance();
+        }
+        break;
+    default: { /* a heap of another seed */
+        const struct seed *seed = &seeds[below(seed_count)];
+        if (i && seed->length[i] < room_left() + n) memcpy(s, seed->at[i], lengths[i] = seed->length[i]);
+    }
+    }
+}
+
+static void mutate_header(void) {
+    if (lengths[0] < 28) return;
+    uint8_t *s = copy[0];
+    switch (below(4)) {
+    case 0: s[6] ^= (uint8_t)(1 << below(8)); break;
+    case 1: s[8 + below(8)] ^= (uint8_t)(1 << below(8)); break;
+    default: s[24 + 4 * below((lengths[0] - 24) / 4 < 12 ? (lengths[0] - 24) / 4 : 12) + below(2)] += (uint8_t)chance();
+    }
+}
+
+/* A header whose counts pass, and then bytes by chance. */
+static void make_noise(void) {
+    uint64_t valid = chance() & chance() & 0x1FFFFFFFFFFFull;
+    valid |= 0x44, lengths[0] = 24;
+    memset(copy[0], 0, 24);
+    copy[0][6] = (uint8_t)below(8);
+    memcpy(copy[0] + 8, &valid, 8);
+    for (int kind = 0; kind < 64; kind++)
+        if (valid >> kind & 1) {
+            uint32_t rows = (uint32_t)below(6);
+            memcpy(copy[0] + lengths[0], &rows, 4), lengths[0] += 4;
+        }
+    for (size_t n = below(500); n; n--) copy[0][lengths[0]++] = (uint8_t)(below(3) ? below(24) : chance());
+    for (int i = 1; i < 3; i++) {
+        lengths[i] = below(200);
+        for (size_t k = 0; k < lengths[i]; k++) copy[i][k] = (uint8_t)(below(4) ? chance() & (i == 1 ? 0x7F : 0x1F) : 0);
+    }
+}
+
+static void make_input(void) {
+    if (!below(8)) {
+        make_noise();
+        return;
+    }
+    take(&seeds[below(seed_count)]);
+    for (size_t times = 1 + below(6); times; times--) below(10) ? mutate((const int[]){ 0, 0, 0, 1, 2, 2 }[below(6)]) : mutate_header();
+}
+
+/* Numbers for a call: inside where there is anything inside. The answer is whether all are inside; `out` is the place of one that is to
+   be outside. */
+static int some_rows(int call, int out, uint32_t *rows) {
+    int inside = 1;
+    memset(rows, 0, 3 * sizeof *rows);
+    for (int i = 0; i < calls[call].rows; i++) {
+        uint64_t n = inside ? count(calls[call].counted_by[i], rows) : 0;
+        if (i == out || !n) {
+            uint64_t past = n + (below(2) ? 0 : below(1000));
+            rows[i] = below(4) ? (uint32_t)past : 0xFFFFFFFF - (uint32_t)below(2);
+            inside = 0;
+        } else
+            rows[i] = (uint32_t)below(n);
+    }
+    return inside;
+}
+
+static void check_call(int call, uint8_t refusal, int out) {
+    uint32_t rows[3];
+    int inside = some_rows(call, out, rows);
+    struct dotnet_reply reply, again;
+    if (calls[call].is_name) {
+        static uint8_t before[ROOM];
+        size_t length = (const size_t[]){ below(3), below(24), below(24), below(200), 4096 }[below(5)];
+        reply = ask_name(call, rows, length, (int)below(256));
+        memcpy(before, lent.end - length, length);
+        again = ask_name(call, rows, length, (int)below(256));
+        if (memcmp(before, lent.end - length, length)) report("other bytes for another filling");
+    } else {
+        reply = ask(call, rows, no_buffer);
+        again = ask(call, rows, no_buffer);
+    }
+    if (!same(reply, again)) report("another reply the second time");
+    int may_fail = calls[call].is_name && (reply.no == NO_NAME || reply.no == BUFFER_TOO_SMALL);
+    if (refusal ? reply.no != refusal : inside ? reply.no && !may_fail : reply.no != NO_SUCH_ROW)
+        report("a refusal that does not belong there, or none where one does");
+}
+
+/* The tables adjoin, and none reaches past the stream's end. */
+static void check_walk(uint8_t refusal) {
+    struct dotnet_extents walk = dotnet_walk(input.tables);
+    asked++;
+    if (walk.reply.no != refusal || (refusal ? walk.reply.value : walk.reply.value > 64)) report("a walk with another reply");
+    for (uint64_t kind = 0, end = 0; kind < 64; kind++) {
+        if (!walk.sizes[kind]) {
+            if (walk.starts[kind] || walk.rows[kind]) report("a table without rows that has a place");
+            continue;
+        }
+        if (end && walk.starts[kind] != end) report("tables that do not adjoin");
+        end = walk.starts[kind] + (uint64_t)walk.sizes[kind] * walk.rows[kind];
+        if (end > input.tables.length || kind > walk.reply.value) report("a table past the end");
+    }
+}
+
+static void run_inputs(unsigned long times) {
+    static unsigned long left;
+    for (left = times; left; left--) {
+        if (sigsetjmp(too_long, 1)) { slow++, save_input("slow"); continue; }
+        make_input(), place();
+        struct dotnet_reply opened = ask(CLASS_COUNT, (const uint32_t[3]){ 0, 0, 0 }, no_buffer);
+        if (opened.no > TOO_MANY_ROWS) report("a refusal that opening does not have");
+        check_walk(opened.no);
+        for (int call = 0; call < CALLS; call++)
+            for (int out = -1; out < calls[call].rows; out++)
+                check_call(call, opened.no, out);
+        if (!are_unchanged()) report("a stream is changed");
+    }
+}
+
+int main(int argc, char **argv) {
+    struct rlimit limit;
+    getrlimit(RLIMIT_STACK, &limit);
+    if (limit.rlim_cur < STACK && limit.rlim_cur < limit.rlim_max) { /* for this program started again */
+        limit.rlim_cur = limit.rlim_max < STACK ? limit.rlim_max : STACK;
+        if (!setrlimit(RLIMIT_STACK, &limit)) execv("/proc/self/exe", argv);
+    }
+    int lengths_only = argc == 3 && !strcmp(argv[1], "lengths");
+    if (!lengths_only && !(argc == 5 && !strcmp(argv[1], "inputs"))) {
+        fprintf(stderr, "usage: harness lengths SEEDS, or harness inputs SEEDS N SEED\n");
+        return 2;
+    }
+    for (int i = 0; i < 3; i++) streams[i] = region_of(MOST);
+    lent = region_of(ROOM + CANARY);
+    read_seeds(argv[2]);
+    catch_signals();
+    time_t begun = time(0);
+    if (lengths_only) run_lengths();
+    else state = strtoull(argv[4], 0, 10) * 0x9E3779B97F4A7C15ull | 1, run_inputs(strtoul(argv[3], 0, 10));
+    printf("%s: %lu inputs, %lu calls, %lu wrong, %lu slow, %ld seconds\n", argv[1], lengths_only ? seed_count : strtoul(argv[3], 0, 10),
+           asked, wrong, slow, (long)(time(0) - begun));
+    return wrong ? 1 : 0;
+}
