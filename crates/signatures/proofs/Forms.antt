@@ -1,17 +1,20 @@
 -- The ways through each form of a type: what rendering its parts comes to, put together. Assumes nothing.
 use mathlib.Core.Path.{_≡_, refl, sym, ap, subst, _∙_}
-use mathlib.Core.List.{List, [], _++_}
+use mathlib.Core.Bool.{cond}
+use mathlib.Core.List.{List, [], _++_, append-assoc}
+use mathlib.Core.Logic.{_⊎_, inl, inr, ⊎-elim}
 use mathlib.Core.Option.{Option, none, some}
 use Prim.Native.Nat.{ℕ, zero, suc, _+_, _-_, _/_, _%_, _≤_, _<_, zero-le}
+use native.Mathlib.Nat.{le-refl, eq-or-lt-of-le}
 use native.Mathlib.Omega.{arith}
 use borrow.Author.Tests.{eq-eqb, ne-eqb, lt-ltb, le-ltb}
-use lib.Dec.{ltb}
+use lib.Dec.{ltb, eqb}
 use lib.ListN.{length, getD, drop, length-drop}
 use lib.Seq.{length-take-le}
 use denote.Ref.{RefT, now}
 use Rattle.numbers.specs.Parts.{CutOf}
 use Rattle.numbers.proofs.Parts.{cut-is}
-use Rattle.numbers.specs.Reading.{Res, Reader, someAt, noneAt, after}
+use Rattle.numbers.specs.Reading.{Res, Reader, someAt, noneAt, after, chain, give, _>>=_}
 use Rattle.numbers.specs.Compressed.{uint}
 use Rattle.numbers.proofs.Reading.{Onward, give-onward, fail-onward, cond-onward, bind-onward}
 use Rattle.numbers.proofs.Compressed.{uint-onward}
@@ -21,15 +24,22 @@ use Rattle.buffers.proofs.Writing.{wrote-none, wrote-then, wrote-kept, kept-sam
 use Rattle.rendering.specs.Rendered.{Rendered, done, failed}
 use Rattle.rendering.specs.declared.Rendering.{Rendering}
 use Rattle.rendering.specs.declared.Rendering.the-variants.{Done, Failed}
-use Rattle.rendering.proofs.Laws.{Texted, Untexted, rendered-after}
+use Rattle.rendering.proofs.Laws.{Texted, Untexted, rendered-failed, rendered-after}
 use Rattle.record.specs.Dims.{sep}
-use Rattle.record.specs.Types.{Env, look, simple, inBlob, typeFullName, methodStart, arguments, shown, parameters, around, classType, instance, fnPtr, shape, array, form, type}
-use Rattle.record.proofs.Onward.{methodStart-onward, type-onward}
+use Rattle.record.specs.Names.{nameAt}
+use Rattle.record.specs.Readings.{known}
+use Rattle.record.specs.Types.{Env, look, simple, inBlob, typeFullName, methodStart, arguments, shown, parameters, around, classType, generic, instance, fnPtr, shape, array, form, type}
+use Rattle.record.proofs.Onward.{methodStart-onward, arguments-onward, type-onward}
 use Rattle.record.proofs.Unfold.{type-is}
+use Rattle.rows.specs.Layout.{viewIn}
 use Rattle.shapes.specs.Runs.{brackets, suffixed, SameLevel, Leads, Stops}
 use Rattle.shapes.proofs.Laws.{type-same-level}
-use Rattle.sig_leaves.specs.Leaves.{upTo, argumentCount}
-use Rattle.sig_leaves.proofs.Numbers.{instance-is}
+use Rattle.sig_leaves.specs.Leaves.{upTo, argumentCount, genericsOf}
+use Rattle.sig_leaves.specs.declared.Owner.{Owner}
+use Rattle.sig_leaves.specs.declared.Owner.the-variants.{Of, Nobody}
+use Rattle.sig_leaves.proofs.Numbers.{instanceOf, instance-is}
+use Rattle.signatures.specs.Environment.{envIn, somebody, keyOf}
+use Rattle.signatures.specs.Parts.{before, behind, ownerBy, argumentList, Chain}
 
 -- A call after one that was taken back.
 module _ {b b₁ b₂ : List ℕ} {at : ℕ} (k : Kept b at b₁) where
@@ -46,6 +56,29 @@ module _ {d : Res Text} {b : List ℕ} {at : ℕ} {b′ : List ℕ} where
 
   gives : {at′ : ℕ} (next : ℕ) (t : Text) → d .got ≡ some t → d .next ≡ next → Wrote b at t b′ at′ → Rendered d b at b′ (Done at′ next)
   gives next t g n w = done t g n w
+
+-- ---- A generic type is its first type, and behind it the list of its arguments
+
+-- A text that may be missing, behind another.
+abbrev behind-text : Text → Option Text → Option Text
+behind-text t none = none
+behind-text t (some u) = some (t ++ u)
+
+abbrev Joins : Text → Res Text → Res Text → Type 0
+Joins t x y = (x .got ≡ behind-text t (y .got)) × (x .next ≡ y .next)
+
+module _ (p : Reader Text) (s : List ℕ) (t : Text) where
+  texts-join : (o : Option Text) (next m : ℕ)
+      → Joins t (chain o next m (λ ts to. give (t ++ q "<" ++ ts ++ q ">") s to)) (chain o next m (λ ts to. give (q "<" ++ ts ++ q ">") s to))
+  texts-join none next m = (refl, refl)
+  texts-join (some ts) next m =
+      (ap some (ap (λ (x : Text). x ++ q ">") (append-assoc t (q "<") ts) ∙ append-assoc t (q "<" ++ ts) (q ">")), refl)
+
+  count-joins : (o : Option ℕ) (next m : ℕ)
+      → Joins t (chain o next m (λ k to. instanceOf p t k s to))
+      (chain o next m (λ k to. (arguments k 0 p >>= (λ ts. give (q "<" ++ ts ++ q ">"))) s to))
+  count-joins none next m = (refl, refl)
+  count-joins (some k) next m = let r = arguments k 0 p s next in texts-join (r .got) (r .next) (r .steps)
 
 -- A reading p of the types in a form; s is the signature, and pos a position in it.
 module _ (p : Reader Text) (s : List ℕ) (pos : ℕ) where
@@ -79,22 +112,36 @@ module _ (p : Reader Text) (s : List ℕ) (pos : ℕ) where
     unfolding instance
     instance-failed t = fails n (rw (t .got)) (rw (t .got) (t .on)) (t .keeps)
 
-    module _ {at₁ : ℕ} (t : Texted (p s pos) b at b₁ at₁ n) where
-      pub instance-uncounted : (m : ℕ) → noneAt m ≡ argumentCount s n → Rendered (instance p s pos) b at b₁ (Failed m)
-      instance-uncounted m e =
-          rw (instance-is p s pos) (fails m (rw (t .got, t .on, ← e)) (rw (t .got, t .on, ← e)) (t .wrote .keeps))
+    pub instance-listed : {b₂ : List ℕ} {at₁ : ℕ} {r : Rendering} → Texted (p s pos) b at b₁ at₁ n → Rendered (argumentList p s n) b₁ at₁ b₂ r
+        → Rendered (instance p s pos) b at b₂ r
+    unfolding argumentList
+    instance-listed t (done {next = m} u g x w) =
+        let c = argumentCount s n in
+        let j = count-joins p s (t .text) (c .got) (c .next) (c .steps) in
+        rw (instance-is p s pos) (gives m (t .text ++ u) (rw (t .got, t .on) (j .0 ∙ ap (behind-text (t .text)) g)) (rw (t .got, t .on) (j .1 ∙ x))
+        (wrote-then (t .wrote) w))
+    instance-listed t (failed {next = m} g x k) =
+        let c = argumentCount s n in
+        let j = count-joins p s (t .text) (c .got) (c .next) (c .steps) in
+        rw (instance-is p s pos) (fails m (rw (t .got, t .on) (j .0 ∙ ap (behind-text (t .text)) g)) (rw (t .got, t .on) (j .1 ∙ x))
+        (wrote-kept (t .wrote) k))
 
-      module _ {k m : ℕ} (e : someAt k m ≡ argumentCount s n) {b₂ b₃ : List ℕ} {at₂ o : ℕ} (w : Wrote b₁ at₁ (q "<") b₂ at₂) where
-        pub instance-cut : Untexted (arguments k 0 p s m) b₂ at₂ b₃ o → Rendered (instance p s pos) b at b₃ (Failed o)
-        instance-cut u =
-            rw (instance-is p s pos) (fails o (rw (t .got, t .on, ← e, u .got)) (rw (t .got, t .on, ← e, u .got) (u .on))
-            (wrote-kept (wrote-then (t .wrote) w) (u .keeps)))
+  -- The arguments of such a type: their number, and these.
+  module _ {b : List ℕ} {at : ℕ} where
+    pub list-uncounted : (m : ℕ) → noneAt m ≡ argumentCount s pos → Rendered (argumentList p s pos) b at b (Failed m)
+    unfolding argumentList
+    list-uncounted m e = fails m (rw (← e)) (rw (← e)) (kept-same b at)
 
-        pub instance-done : {b₄ : List ℕ} {at₃ at₄ : ℕ} → Texted (arguments k 0 p s m) b₂ at₂ b₃ at₃ o → Wrote b₃ at₃ (q ">") b₄ at₄
-            → Rendered (instance p s pos) b at b₄ (Done at₄ o)
-        instance-done u v =
-            rw (instance-is p s pos) (gives o (t .text ++ q "<" ++ u .text ++ q ">") (rw (t .got, t .on, ← e, u .got))
-            (rw (t .got, t .on, ← e, u .got) (u .on)) (wrote-then (wrote-then (wrote-then (t .wrote) w) (u .wrote)) v))
+    module _ {k m : ℕ} (e : someAt k m ≡ argumentCount s pos) {b₁ b₂ : List ℕ} {at₁ o : ℕ} (w : Wrote b at (q "<") b₁ at₁) where
+      pub list-cut : Untexted (arguments k 0 p s m) b₁ at₁ b₂ o → Rendered (argumentList p s pos) b at b₂ (Failed o)
+      unfolding argumentList
+      list-cut u = fails o (rw (← e, u .got)) (rw (← e, u .got) (u .on)) (wrote-kept w (u .keeps))
+
+      pub list-done : {b₃ : List ℕ} {at₂ at₃ : ℕ} → Texted (arguments k 0 p s m) b₁ at₁ b₂ at₂ o → Wrote b₂ at₂ (q ">") b₃ at₃
+          → Rendered (argumentList p s pos) b at b₃ (Done at₃ o)
+      unfolding argumentList
+      list-done u v =
+          gives o (q "<" ++ u .text ++ q ">") (rw (← e, u .got)) (rw (← e, u .got) (u .on)) (wrote-then (wrote-then w (u .wrote)) v)
 
   -- 0x1B: what stands before a method's types, its return type and its parameters.
   module _ {b : List ℕ} {at : ℕ} where
@@ -223,10 +270,54 @@ module _ (e : Env) (l : ℕ) (s : List ℕ) (pos : ℕ) {b : List ℕ} {at : ℕ
       ∙ ap (λ (j : ℕ). after 1 (form e (type e (l - 1)) (type e j) tag s (pos + 1))) (sym one) in
       rw is (rendered-after 1 x)
 
+  pub type-instance : 0 < l → pos < length s → getD s pos 0 ≡ 0x15 → {b′ : List ℕ} {r : Rendering}
+      → Rendered (instance (type e l) s (pos + 1)) b at b′ r → Rendered (type e l s pos) b at b′ r
+  unfolding form look
+  type-instance z h i x = type-form 0x15 z h (sym i) x
+
+-- A chain of 0x15 fails where the type behind it does.
+module _ (e : Env) (l : ℕ) (s : List ℕ) (z : 0 < l) {b b′ : List ℕ} {at m : ℕ} where
+  chain-fails : (n pos to : ℕ) → to ≡ pos + n → ((i : ℕ) → pos ≤ i → i < to → (i < length s) × (getD s i 0 ≡ 0x15))
+      → Untexted (type e l s to) b at b′ m → Untexted (type e l s pos) b at b′ m
+  chain-fails zero pos to q c u = let is : to ≡ pos = omega (arith, q) in subst (λ (i : ℕ). Untexted (type e l s i) b at b′ m) is u
+  chain-fails (suc n) pos to q c u =
+      let here = c pos (le-refl _) (omega (arith, q)) in
+      let next = chain-fails n (pos + 1) to (omega (arith, q)) (λ i lo hi. c i (omega arith) hi) u in
+      rendered-failed (type-instance e l s pos z (here .0) (here .1) (instance-failed (type e l) s (pos + 1) next)) refl
+
+  pub chain-failed : (pos to : ℕ) → pos ≤ to → ((i : ℕ) → pos ≤ i → i < to → (i < length s) × (getD s i 0 ≡ 0x15))
+      → Untexted (type e l s to) b at b′ m → Rendered (type e l s pos) b at b′ (Failed m)
+  chain-failed pos to h c u = let v = chain-fails (to - pos) pos to (omega arith) c u in fails m (v .got) (v .on) (v .keeps)
+
+-- The chain that begins with this 0x15.
+pub chain-from : (s : List ℕ) (pos to : ℕ) → pos < length s → getD s pos 0 ≡ 0x15 → Chain s (pos + 1) to
+    → (i : ℕ) → pos ≤ i → i < to → (i < length s) × (getD s i 0 ≡ 0x15)
+chain-from s pos to h b c i lo hi =
+    ⊎-elim (λ e. (omega (arith, e, h), ap (λ (j : ℕ). getD s j 0) (sym e) ∙ b)) (λ l. c .inside i (omega (arith, l)) hi) (eq-or-lt-of-le lo)
+
+-- One step outwards: what stands before position i is 0x15, and behind the type at i stands the list of its arguments.
+pub chain-out : (e : Env) (l : ℕ) (s : List ℕ) (i : ℕ) → 0 < l → 0 < i → (i - 1 < length s) × (getD s (i - 1) 0 ≡ 0x15)
+    → {b b₁ b₂ : List ℕ} {at at₁ n : ℕ} {r : Rendering} → Texted (type e l s i) b at b₁ at₁ n
+    → Rendered (argumentList (type e l) s n) b₁ at₁ b₂ r → Rendered (type e l s (i - 1)) b at b₂ r
+chain-out e l s i z o c {b} {b₁} {b₂} {at} {at₁} {n} t h =
+    let is : i ≡ i - 1 + 1 = omega (arith, o) in
+    let u : Texted (type e l s (i - 1 + 1)) b at b₁ at₁ n = subst (λ (j : ℕ). Texted (type e l s j) b at b₁ at₁ n) is t in
+    type-instance e l s (i - 1) z (c .0) (c .1) (instance-listed (type e l) s (i - 1 + 1) u h)
+
+-- All the way out.
+pub chain-done : (e : Env) (l : ℕ) (s : List ℕ) {i pos : ℕ} → i ≡ pos → {b b′ : List ℕ} {at at′ n : ℕ}
+    → Texted (type e l s i) b at b′ at′ n → Rendered (type e l s pos) b at b′ (Done at′ n)
+chain-done e l s q {b} {b′} {at} {at′} {n} t =
+    let u = subst (λ (j : ℕ). Texted (type e l s j) b at b′ at′ n) q t in gives n (u .text) (u .got) (u .on) (u .wrote)
+
 -- Readings go on: the position after one is not before it.
 count-onward : Onward argumentCount
 unfolding upTo
 count-onward = bind-onward uint-onward (λ n. cond-onward (ltb 1000 n) fail-onward (give-onward n))
+
+list-onward : {p : Reader Text} → Onward p → Onward (argumentList p)
+unfolding argumentList
+list-onward f = bind-onward count-onward (λ n. bind-onward (arguments-onward n 0 f) (λ ts. give-onward _))
 
 module _ (s : List ℕ) (pos : ℕ) where
   pub count-ahead : {k m : ℕ} → someAt k m ≡ argumentCount s pos → pos ≤ m
@@ -241,6 +332,9 @@ module _ (s : List ℕ) (pos : ℕ) where
 
     pub failed-ahead : {n : ℕ} → Untexted (type e l s pos) b at b₁ n → pos ≤ n
     failed-ahead t = rw (t .on) at (type-onward e l .ahead s pos .from)
+
+    pub list-ahead : {at₁ n : ℕ} → Texted (argumentList (type e l) s pos) b at b₁ at₁ n → pos ≤ n
+    list-ahead t = rw (t .on) at (list-onward (type-onward e l) .ahead s pos .from)
 
 -- ---- The signature of a TypeSpec row
 
@@ -282,6 +376,52 @@ module _ (e : Env) (l : ℕ) (s : List ℕ) (pos : ℕ) (h : 0 < l) {b : List �
         gives m (t .text ++ brackets n) (x .got (type e l) (same-level e l h) ∙ ap (suffixed (brackets n)) (t .got))
         (x .on (type e l) (same-level e l h) ∙ t .on) (wrote-then (t .wrote) w)
 
+-- ---- Forms that two tags share
+
+-- One of two numbers that stand one after the other.
+one-of-two : (k n : ℕ) → k ≤ n → n < k + 2 → (n ≡ k) ⊎ (n ≡ k + 1)
+one-of-two k n h l = ⊎-elim (λ e. inl (sym e)) (λ x. inr (omega (arith, x, l))) (eq-or-lt-of-le h)
+
+module _ (e : Env) (d p : Reader Text) (tag : ℕ) (s : List ℕ) (pos : ℕ) {b b′ : List ℕ} {at : ℕ} {r : Rendering} where
+  pointer-form : tag ≡ 0x0F → Rendered (around (before tag) (behind tag) d s pos) b at b′ r → Rendered (form e d p tag s pos) b at b′ r
+  unfolding form look before behind
+  pointer-form x h = rw x (rw x at h)
+
+  reference-form : tag ≡ 0x10 → Rendered (around (before tag) (behind tag) d s pos) b at b′ r → Rendered (form e d p tag s pos) b at b′ r
+  unfolding form look before behind
+  reference-form x h = rw x (rw x at h)
+
+  pub around-form : 0x0F ≤ tag → tag < 0x11 → Rendered (around (before tag) (behind tag) d s pos) b at b′ r
+      → Rendered (form e d p tag s pos) b at b′ r
+  around-form lo hi h = ⊎-elim (λ x. pointer-form x h) (λ x. reference-form x h) (one-of-two 0x0F tag lo hi)
+
+  value-form : tag ≡ 0x11 → Rendered (classType e d s pos) b at b′ r → Rendered (form e d p tag s pos) b at b′ r
+  unfolding form look
+  value-form x h = rw x h
+
+  reference-class-form : tag ≡ 0x12 → Rendered (classType e d s pos) b at b′ r → Rendered (form e d p tag s pos) b at b′ r
+  unfolding form look
+  reference-class-form x h = rw x h
+
+  pub class-form : 0x11 ≤ tag → tag < 0x13 → Rendered (classType e d s pos) b at b′ r → Rendered (form e d p tag s pos) b at b′ r
+  class-form lo hi h = ⊎-elim (λ x. value-form x h) (λ x. reference-class-form x h) (one-of-two 0x11 tag lo hi)
+
+module _ (t l strings blob : List ℕ) (class method : Owner) (d p : Reader Text) (tag : ℕ) (s : List ℕ) (pos : ℕ)
+    {b b′ : List ℕ} {at : ℕ} {r : Rendering} where
+  var-form : tag ≡ 0x13 → Rendered (generic (nameAt (genericsOf (viewIn t l strings blob) (ownerBy tag class method))) s pos) b at b′ r
+      → Rendered (form (envIn t l strings blob class method) d p tag s pos) b at b′ r
+  unfolding form look envIn ownerBy
+  var-form x h = rw x (rw x at h)
+
+  mvar-form : tag ≡ 0x1E → Rendered (generic (nameAt (genericsOf (viewIn t l strings blob) (ownerBy tag class method))) s pos) b at b′ r
+      → Rendered (form (envIn t l strings blob class method) d p tag s pos) b at b′ r
+  unfolding form look envIn ownerBy
+  mvar-form x h = rw x (rw x at h)
+
+  pub generic-form : (tag ≡ 0x13) ⊎ (tag ≡ 0x1E) → Rendered (generic (nameAt (genericsOf (viewIn t l strings blob) (ownerBy tag class method))) s pos) b at b′ r
+      → Rendered (form (envIn t l strings blob class method) d p tag s pos) b at b′ r
+  generic-form two h = ⊎-elim (λ x. var-form x h) (λ x. mvar-form x h) two
+
 -- ---- The types that are their tag alone
 
 pub record Alone (tag : ℕ) : Type 0 where
@@ -316,16 +456,39 @@ module _ (e : Env) (d p : Reader Text) (tag : ℕ) (x : Alone tag) (s : List ℕ
     ne-eqb tag 0x20 (x .no-20),
   ) refl
 
-  module _ {b b′ : List ℕ} {at : ℕ} where
-    pub alone-done : {at′ : ℕ} → Said b at b′ (simple tag) (some at′) → Rendered (form e d p tag s pos) b at b′ (Done at′ pos)
-    alone-done h =
-        let t = said-some h in
-        gives pos (t .text) (ap (λ (r : Res Text). r .got) alone ∙ t .is) (ap (λ (r : Res Text). r .next) alone) (t .wrote)
+  pub alone-form : {b b′ : List ℕ} {at : ℕ} {r : Rendering} → Rendered (known (simple tag) [] pos) b at b′ r → Rendered (form e d p tag s pos) b at b′ r
+  alone-form h = rw alone h
 
-    pub alone-missing : Said b at b′ (simple tag) none → Rendered (form e d p tag s pos) b at b′ (Failed pos)
-    alone-missing h =
-        let t = said-none h in
-        fails pos (ap (λ (r : Res Text). r .got) alone ∙ t .0) (ap (λ (r : Res Text). r .next) alone) (t .1)
+-- A tag outside of the four from 0x0F to 0x12 is none of them.
+not-within : {tag : ℕ} → (tag < 0x0F) ⊎ (0x13 ≤ tag) → (k : ℕ) → 0x0F ≤ k → k < 0x13 → tag ≡ k → ⊥
+not-within o k lo hi x = ⊎-elim (λ l. absurd (omega (arith, l, lo, x))) (λ g. absurd (omega (arith, g, hi, x))) o
+
+-- A tag that is in no arm of the match, and does not keep the level.
+pub alone-tag : (tag : ℕ) → (tag < 0x0F) ⊎ (0x13 ≤ tag) → ((tag ≡ 0x13) ⊎ (tag ≡ 0x1E) → ⊥) → (tag ≡ 0x14 → ⊥) → (tag ≡ 0x15 → ⊥)
+    → (tag ≡ 0x1B → ⊥) → (tag ≡ 0x1D → ⊥) → (tag ≡ 0x1F → ⊥) → (tag ≡ 0x20 → ⊥) → Alone tag
+alone-tag tag out var array instance-tag method vector required optional =
+    record {
+      no-0F = not-within out 0x0F (omega arith) (omega arith);
+      no-10 = not-within out 0x10 (omega arith) (omega arith);
+      no-11 = not-within out 0x11 (omega arith) (omega arith);
+      no-12 = not-within out 0x12 (omega arith) (omega arith);
+      no-13 = λ x. var (inl x);
+      no-14 = array;
+      no-15 = instance-tag;
+      no-1B = method;
+      no-1D = vector;
+      no-1E = λ x. var (inr x);
+      no-1F = required;
+      no-20 = optional;
+    }
+
+-- The text of such a type, as the leaf said it.
+module _ (tag pos : ℕ) {b b′ : List ℕ} {at : ℕ} where
+  pub alone-done : {at′ : ℕ} → Said b at b′ (simple tag) (some at′) → Rendered (known (simple tag) [] pos) b at b′ (Done at′ pos)
+  alone-done h = let t = said-some h in gives pos (t .text) (t .is) refl (t .wrote)
+
+  pub alone-missing : Said b at b′ (simple tag) none → Rendered (known (simple tag) [] pos) b at b′ (Failed pos)
+  alone-missing h = let t = said-none h in fails pos (t .0) refl (t .1)
 
 -- ---- Separators
 
@@ -338,3 +501,9 @@ module _ {b b′ : List ℕ} {at at′ : ℕ} where
   pub sep-text : (text : List ℕ) (i : ℕ) → (i ≡ 0 → ⊥) → Wrote b at text b′ at′ → Wrote b at (sep i text) b′ at′
   unfolding sep
   sep-text text i n w = rw (ne-eqb i 0 n) w
+
+-- ---- Owners as numbers
+
+pub owner-back : (o : Owner) {n k : ℕ} → n ≡ somebody o → k ≡ keyOf o → cond (eqb n 0) Nobody (Of k) ≡ o
+owner-back (Of k) e f = rw (e, f) refl
+owner-back Nobody e f = rw e refl

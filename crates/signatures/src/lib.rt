@@ -9,27 +9,27 @@ use rows::Layout;
 use shapes::Run;
 use sig_leaves::Blob;
 use sig_leaves::Owner;
-ghost use Prim.Native.Nat.{_+_, _<_, _≤_};
-ghost use lib.ListN.{length};
+ghost use mathlib.Core.Path.{_≡_};
+ghost use mathlib.Core.List.{List, []};
+ghost use Prim.Native.Nat.{ℕ, _+_, _<_, _≤_};
+ghost use lib.ListN.{length, getD};
 ghost use Rattle.buffers.specs.Writes.{Wrote, Said, placeSays};
 ghost use Rattle.record.specs.Dims.{sep};
-ghost use Rattle.record.specs.Types.{typeFullName, arguments, parameters, around, classType, instance, fnPtr, array, type};
-ghost use Rattle.rows.specs.Layout.{Laid};
+ghost use Rattle.record.specs.Names.{nameAt};
+ghost use Rattle.record.specs.Readings.{known};
+ghost use Rattle.record.specs.Types.{simple, typeFullName, arguments, parameters, around, classType, generic, fnPtr, array, type};
+ghost use Rattle.rows.specs.Layout.{Laid, viewIn};
 ghost use Rattle.rendering.specs.Rendered.{Rendered};
-ghost use Rattle.signatures.specs.Environment.{envIn};
+ghost use Rattle.signatures.specs.Environment.{envIn, somebody, keyOf, ownerAt, envOf};
+ghost use Rattle.signatures.specs.Parts.{before, behind, ownerBy, argumentList, Chain};
 ghost use Rattle.shapes.specs.Runs.{Plain};
+ghost use Rattle.sig_leaves.specs.Leaves.{genericsOf};
 
-// A separator before all but number 0.
-fn push_sep(buf: &mut [u8], at: usize, i: usize, text: &[u8]) -> usize
-    ensures { λ r. ⌜ Wrote (now (buf .entry)) at (sep i (now (text .entry))) (now (buf .exit)) r ⌝ }
-{
-    if i == 0 {
-        return buffers::push(buf, at, numbers::cut(text, 0, 0));
-    }
-    buffers::push(buf, at, text)
-}
+// The two owners, lent as four numbers: an owner by value is copied for each call, which takes 64 bytes more
+// of stack for a nesting.
+type Owners = [usize; 4];
 
-// The type at a position, with so many levels left. Tags that keep the level and add no text before the type are passed by a loop.
+// The type at a position, with so many levels left.
 pub fn parse_sig_type(
     buf: &mut [u8],
     at: usize,
@@ -46,245 +46,22 @@ pub fn parse_sig_type(
     requires { ⌜ Laid (now tables) (now layout) ⌝ }
     ensures { λ r. ⌜ Rendered (type (envIn (now (tables .entry)) (now (layout .entry)) (now (strings .entry)) (now (blob .entry)) class method) left (now (sig .entry)) pos) (now (buf .entry)) at (now (buf .exit)) r ⌝ }
 {
-    if sig.len() <= pos {
-        return Rendering::Failed(pos);
-    }
-    if left == 0 {
-        return Rendering::Failed(pos + 1);
-    }
-    match shapes::skip_run(sig, pos) {
-        Run::Over(count, plain) => {
-            match sig_plain(
-                buf,
-                at,
-                tables,
-                strings,
-                blob,
-                layout,
-                class,
-                method,
-                sig,
-                plain,
-                left,
-            ) {
-                Rendering::Done(end, next) => Rendering::Done(
-                    shapes::push_brackets(buf, end, count),
-                    next,
-                ),
-                Rendering::Failed(next) => Rendering::Failed(next),
-            }
-        }
-        Run::Broken(next) => Rendering::Failed(next),
-    }
-}
-
-// The type behind such a run, by its tag (II.23.1.16).
-fn sig_plain(
-    buf: &mut [u8],
-    at: usize,
-    tables: &[u8],
-    strings: &[u8],
-    blob: &[u8],
-    layout: &Layout,
-    class: Owner,
-    method: Owner,
-    sig: &[u8],
-    pos: usize,
-    left: usize,
-) -> Rendering
-    requires { ⌜ Laid (now tables) (now layout) ⌝ }
-    requires { ⌜ (0 < left) × Plain (now sig) pos ⌝ }
-    ensures { λ r. ⌜ Rendered (type (envIn (now (tables .entry)) (now (layout .entry)) (now (strings .entry)) (now (blob .entry)) class method) left (now (sig .entry)) pos) (now (buf .entry)) at (now (buf .exit)) r ⌝ }
-{
-    if sig.len() <= pos {
-        return Rendering::Failed(pos);
-    }
-    let tag = sig[pos];
-    let p = pos + 1;
-    let deep = left - 1;
-    match tag {
-        0x0F => sig_around(
-            buf,
-            at,
-            tables,
-            strings,
-            blob,
-            layout,
-            class,
-            method,
-            sig,
-            p,
-            deep,
-            b"Ptr<",
-            b">",
-        ),
-        0x10 => sig_around(
-            buf,
-            at,
-            tables,
-            strings,
-            blob,
-            layout,
-            class,
-            method,
-            sig,
-            p,
-            deep,
-            b"ref ",
-            b"",
-        ),
-        0x11 => sig_class(
-            buf,
-            at,
-            tables,
-            strings,
-            blob,
-            layout,
-            class,
-            method,
-            sig,
-            p,
-            deep,
-        ),
-        0x12 => sig_class(
-            buf,
-            at,
-            tables,
-            strings,
-            blob,
-            layout,
-            class,
-            method,
-            sig,
-            p,
-            deep,
-        ),
-        0x13 => sig_leaves::sig_generic(buf, at, tables, strings, layout, class, sig, p),
-        0x14 => sig_array(
-            buf,
-            at,
-            tables,
-            strings,
-            blob,
-            layout,
-            class,
-            method,
-            sig,
-            p,
-            deep,
-        ),
-        0x15 => sig_instance(
-            buf,
-            at,
-            tables,
-            strings,
-            blob,
-            layout,
-            class,
-            method,
-            sig,
-            p,
-            left,
-        ),
-        0x1B => sig_pointer(
-            buf,
-            at,
-            tables,
-            strings,
-            blob,
-            layout,
-            class,
-            method,
-            sig,
-            p,
-            deep,
-        ),
-        0x1E => sig_leaves::sig_generic(buf, at, tables, strings, layout, method, sig, p),
-        _ => match sig_leaves::push_simple(buf, at, tag) {
-            Place::Next(end) => Rendering::Done(end, p),
-            Place::Missing => Rendering::Failed(p),
-        },
-    }
-}
-
-// 0x0F, 0x10: a type between two texts.
-fn sig_around(
-    buf: &mut [u8],
-    at: usize,
-    tables: &[u8],
-    strings: &[u8],
-    blob: &[u8],
-    layout: &Layout,
-    class: Owner,
-    method: Owner,
-    sig: &[u8],
-    pos: usize,
-    left: usize,
-    before: &[u8],
-    behind: &[u8],
-) -> Rendering
-    requires { ⌜ Laid (now tables) (now layout) ⌝ }
-    ensures { λ r. ⌜ Rendered (around (now (before .entry)) (now (behind .entry)) (type (envIn (now (tables .entry)) (now (layout .entry)) (now (strings .entry)) (now (blob .entry)) class method) left) (now (sig .entry)) pos) (now (buf .entry)) at (now (buf .exit)) r ⌝ }
-{
-    let first = buffers::push(buf, at, before);
-    match parse_sig_type(
+    let owners = owners_of(class, method);
+    sig_type(
         buf,
-        first,
+        at,
         tables,
         strings,
         blob,
         layout,
-        class,
-        method,
+        &owners,
         sig,
         pos,
         left,
-    ) {
-        Rendering::Done(end, next) => Rendering::Done(buffers::push(buf, end, behind), next),
-        Rendering::Failed(next) => Rendering::Failed(next),
-    }
+    )
 }
 
-// 0x11, 0x12: the name behind an index.
-fn sig_class(
-    buf: &mut [u8],
-    at: usize,
-    tables: &[u8],
-    strings: &[u8],
-    blob: &[u8],
-    layout: &Layout,
-    class: Owner,
-    method: Owner,
-    sig: &[u8],
-    pos: usize,
-    left: usize,
-) -> Rendering
-    requires { ⌜ Laid (now tables) (now layout) ⌝ }
-    ensures { λ r. ⌜ Rendered (classType (envIn (now (tables .entry)) (now (layout .entry)) (now (strings .entry)) (now (blob .entry)) class method) (type (envIn (now (tables .entry)) (now (layout .entry)) (now (strings .entry)) (now (blob .entry)) class method) left) (now (sig .entry)) pos) (now (buf .entry)) at (now (buf .exit)) r ⌝ }
-{
-    match numbers::read_uint(sig, pos) {
-        Uint::Number(index, next) => {
-            match get_type_fullname(
-                buf,
-                at,
-                tables,
-                strings,
-                blob,
-                layout,
-                class,
-                method,
-                index,
-                left,
-            ) {
-                Place::Next(end) => Rendering::Done(end, next),
-                Place::Missing => Rendering::Failed(next),
-            }
-        }
-        Uint::NoNumber(next) => Rendering::Failed(next),
-    }
-}
-
-// The name behind a TypeDefOrRef index (II.24.2.6).
+// The name behind a TypeDefOrRef index (II.24.2.6), with so many levels left.
 pub fn get_type_fullname(
     buf: &mut [u8],
     at: usize,
@@ -300,6 +77,357 @@ pub fn get_type_fullname(
     requires { ⌜ Laid (now tables) (now layout) ⌝ }
     ensures { λ r. ⌜ Said (now (buf .entry)) at (now (buf .exit)) (typeFullName (envIn (now (tables .entry)) (now (layout .entry)) (now (strings .entry)) (now (blob .entry)) class method) (type (envIn (now (tables .entry)) (now (layout .entry)) (now (strings .entry)) (now (blob .entry)) class method) left) index .got) (placeSays r) ⌝ }
 {
+    let owners = owners_of(class, method);
+    type_name(buf, at, tables, strings, blob, layout, &owners, index, left)
+}
+
+// Whether an owner is somebody: 1, or 0.
+fn is_somebody(owner: Owner) -> usize
+    ensures { λ r. ⌜ r ≡ somebody owner ⌝ }
+{
+    match owner {
+        Owner::Of(_) => 1,
+        Owner::Nobody => 0,
+    }
+}
+
+// Its Owner column, or 0 for nobody.
+fn key_of(owner: Owner) -> usize
+    ensures { λ r. ⌜ r ≡ keyOf owner ⌝ }
+{
+    match owner {
+        Owner::Of(key) => key,
+        Owner::Nobody => 0,
+    }
+}
+
+// The numbers of both owners.
+fn owners_of(class: Owner, method: Owner) -> Owners
+    ensures { λ r. ⌜ (ownerAt r 0 ≡ class) × (ownerAt r 2 ≡ method) ⌝ }
+{
+    [
+        is_somebody(class),
+        key_of(class),
+        is_somebody(method),
+        key_of(method),
+    ]
+}
+
+// The owner whose two numbers stand at a place: the class at 0, the method at 2.
+fn owner_at(owners: &Owners, i: usize) -> Owner
+    requires { ⌜ i < 3 ⌝ }
+    ensures { λ r. ⌜ r ≡ ownerAt (now (owners .entry)) i ⌝ }
+{
+    if owners[i] == 0 {
+        return Owner::Nobody;
+    }
+    Owner::Of(owners[i + 1])
+}
+
+// A separator before all but number 0.
+fn push_sep(buf: &mut [u8], at: usize, i: usize, text: &[u8]) -> usize
+    ensures { λ r. ⌜ Wrote (now (buf .entry)) at (sep i (now (text .entry))) (now (buf .exit)) r ⌝ }
+{
+    if i == 0 {
+        return buffers::push(buf, at, numbers::cut(text, 0, 0));
+    }
+    buffers::push(buf, at, text)
+}
+
+// The type at a position, by the owners' numbers. Tags that keep the level and add no text before the type are passed by a loop.
+fn sig_type(
+    buf: &mut [u8],
+    at: usize,
+    tables: &[u8],
+    strings: &[u8],
+    blob: &[u8],
+    layout: &Layout,
+    owners: &Owners,
+    sig: &[u8],
+    pos: usize,
+    left: usize,
+) -> Rendering
+    requires { ⌜ Laid (now tables) (now layout) ⌝ }
+    ensures { λ r. ⌜ Rendered (type (envOf (now (tables .entry)) (now (layout .entry)) (now (strings .entry)) (now (blob .entry)) (now (owners .entry))) left (now (sig .entry)) pos) (now (buf .entry)) at (now (buf .exit)) r ⌝ }
+{
+    if sig.len() <= pos {
+        return Rendering::Failed(pos);
+    }
+    if left == 0 {
+        return Rendering::Failed(pos + 1);
+    }
+    match shapes::skip_run(sig, pos) {
+        Run::Over(count, plain) => {
+            match sig_plain(
+                buf,
+                at,
+                tables,
+                strings,
+                blob,
+                layout,
+                owners,
+                sig,
+                plain,
+                left,
+            ) {
+                Rendering::Done(end, next) => Rendering::Done(
+                    shapes::push_brackets(buf, end, count),
+                    next,
+                ),
+                Rendering::Failed(next) => Rendering::Failed(next),
+            }
+        }
+        Run::Broken(next) => Rendering::Failed(next),
+    }
+}
+
+// The type behind such a run. 0x15 keeps the level too, and may stand before itself.
+fn sig_plain(
+    buf: &mut [u8],
+    at: usize,
+    tables: &[u8],
+    strings: &[u8],
+    blob: &[u8],
+    layout: &Layout,
+    owners: &Owners,
+    sig: &[u8],
+    pos: usize,
+    left: usize,
+) -> Rendering
+    requires { ⌜ Laid (now tables) (now layout) ⌝ }
+    requires { ⌜ (0 < left) × Plain (now sig) pos ⌝ }
+    ensures { λ r. ⌜ Rendered (type (envOf (now (tables .entry)) (now (layout .entry)) (now (strings .entry)) (now (blob .entry)) (now (owners .entry))) left (now (sig .entry)) pos) (now (buf .entry)) at (now (buf .exit)) r ⌝ }
+{
+    if sig.len() <= pos {
+        return Rendering::Failed(pos);
+    }
+    if sig[pos] == 0x15 {
+        return sig_instance(
+            buf,
+            at,
+            tables,
+            strings,
+            blob,
+            layout,
+            owners,
+            sig,
+            pos,
+            left,
+        );
+    }
+    sig_form(
+        buf,
+        at,
+        tables,
+        strings,
+        blob,
+        layout,
+        owners,
+        sig,
+        pos,
+        left,
+    )
+}
+
+// Any other type, by its tag (II.23.1.16).
+fn sig_form(
+    buf: &mut [u8],
+    at: usize,
+    tables: &[u8],
+    strings: &[u8],
+    blob: &[u8],
+    layout: &Layout,
+    owners: &Owners,
+    sig: &[u8],
+    pos: usize,
+    left: usize,
+) -> Rendering
+    requires { ⌜ Laid (now tables) (now layout) ⌝ }
+    requires { ⌜ (0 < left) × Plain (now sig) pos × (pos < length (now sig)) × (getD (now sig) pos 0 ≡ 0x15 → ⊥) ⌝ }
+    ensures { λ r. ⌜ Rendered (type (envOf (now (tables .entry)) (now (layout .entry)) (now (strings .entry)) (now (blob .entry)) (now (owners .entry))) left (now (sig .entry)) pos) (now (buf .entry)) at (now (buf .exit)) r ⌝ }
+{
+    let tag = sig[pos];
+    let p = pos + 1;
+    let deep = left - 1;
+    match tag {
+        0x0F | 0x10 => sig_around(
+            buf,
+            at,
+            tables,
+            strings,
+            blob,
+            layout,
+            owners,
+            sig,
+            p,
+            deep,
+            tag,
+        ),
+        0x11 | 0x12 => sig_class(buf, at, tables, strings, blob, layout, owners, sig, p, deep),
+        0x13 | 0x1E => sig_var(buf, at, tables, strings, layout, owners, sig, p, tag),
+        0x14 => sig_array(buf, at, tables, strings, blob, layout, owners, sig, p, deep),
+        0x1B => parse_method_def_signature(
+            buf,
+            at,
+            tables,
+            strings,
+            blob,
+            layout,
+            owners,
+            sig,
+            p,
+            deep,
+        ),
+        _ => sig_simple(buf, at, p, tag),
+    }
+}
+
+// A type that is its tag alone.
+fn sig_simple(buf: &mut [u8], at: usize, pos: usize, tag: u8) -> Rendering
+    ensures { λ r. ⌜ Rendered (known (simple tag) [] pos) (now (buf .entry)) at (now (buf .exit)) r ⌝ }
+{
+    match sig_leaves::push_simple(buf, at, tag) {
+        Place::Next(end) => Rendering::Done(end, pos),
+        Place::Missing => Rendering::Failed(pos),
+    }
+}
+
+// 0x13, 0x1E: a generic parameter of the class, or of the method.
+fn sig_var(
+    buf: &mut [u8],
+    at: usize,
+    tables: &[u8],
+    strings: &[u8],
+    layout: &Layout,
+    owners: &Owners,
+    sig: &[u8],
+    pos: usize,
+    tag: u8,
+) -> Rendering
+    requires { ⌜ Laid (now tables) (now layout) ⌝ }
+    ensures { λ r. ⌜ ((blob : List ℕ) → Rendered (generic (nameAt (genericsOf (viewIn (now (tables .entry)) (now (layout .entry)) (now (strings .entry)) blob) (ownerBy tag (ownerAt (now (owners .entry)) 0) (ownerAt (now (owners .entry)) 2)))) (now (sig .entry)) pos) (now (buf .entry)) at (now (buf .exit)) r) ⌝ }
+{
+    if tag == 0x13 {
+        return sig_leaves::sig_generic(
+            buf,
+            at,
+            tables,
+            strings,
+            layout,
+            owner_at(owners, 0),
+            sig,
+            pos,
+        );
+    }
+    sig_leaves::sig_generic(
+        buf,
+        at,
+        tables,
+        strings,
+        layout,
+        owner_at(owners, 2),
+        sig,
+        pos,
+    )
+}
+
+// What stands before the type behind 0x0F or 0x10.
+fn push_before(buf: &mut [u8], at: usize, tag: u8) -> usize
+    ensures { λ r. ⌜ Wrote (now (buf .entry)) at (before tag) (now (buf .exit)) r ⌝ }
+{
+    if tag == 0x0F {
+        return buffers::push(buf, at, b"Ptr<");
+    }
+    buffers::push(buf, at, b"ref ")
+}
+
+// What stands behind it.
+fn push_behind(buf: &mut [u8], at: usize, tag: u8) -> usize
+    ensures { λ r. ⌜ Wrote (now (buf .entry)) at (behind tag) (now (buf .exit)) r ⌝ }
+{
+    if tag == 0x0F {
+        return buffers::push(buf, at, b">");
+    }
+    buffers::push(buf, at, b"")
+}
+
+// 0x0F, 0x10: a type between two texts.
+fn sig_around(
+    buf: &mut [u8],
+    at: usize,
+    tables: &[u8],
+    strings: &[u8],
+    blob: &[u8],
+    layout: &Layout,
+    owners: &Owners,
+    sig: &[u8],
+    pos: usize,
+    left: usize,
+    tag: u8,
+) -> Rendering
+    requires { ⌜ Laid (now tables) (now layout) ⌝ }
+    ensures { λ r. ⌜ Rendered (around (before tag) (behind tag) (type (envOf (now (tables .entry)) (now (layout .entry)) (now (strings .entry)) (now (blob .entry)) (now (owners .entry))) left) (now (sig .entry)) pos) (now (buf .entry)) at (now (buf .exit)) r ⌝ }
+{
+    let first = push_before(buf, at, tag);
+    match sig_type(
+        buf,
+        first,
+        tables,
+        strings,
+        blob,
+        layout,
+        owners,
+        sig,
+        pos,
+        left,
+    ) {
+        Rendering::Done(end, next) => Rendering::Done(push_behind(buf, end, tag), next),
+        Rendering::Failed(next) => Rendering::Failed(next),
+    }
+}
+
+// 0x11, 0x12: the name behind an index.
+fn sig_class(
+    buf: &mut [u8],
+    at: usize,
+    tables: &[u8],
+    strings: &[u8],
+    blob: &[u8],
+    layout: &Layout,
+    owners: &Owners,
+    sig: &[u8],
+    pos: usize,
+    left: usize,
+) -> Rendering
+    requires { ⌜ Laid (now tables) (now layout) ⌝ }
+    ensures { λ r. ⌜ Rendered (classType (envOf (now (tables .entry)) (now (layout .entry)) (now (strings .entry)) (now (blob .entry)) (now (owners .entry))) (type (envOf (now (tables .entry)) (now (layout .entry)) (now (strings .entry)) (now (blob .entry)) (now (owners .entry))) left) (now (sig .entry)) pos) (now (buf .entry)) at (now (buf .exit)) r ⌝ }
+{
+    match numbers::read_uint(sig, pos) {
+        Uint::Number(index, next) => {
+            match type_name(buf, at, tables, strings, blob, layout, owners, index, left) {
+                Place::Next(end) => Rendering::Done(end, next),
+                Place::Missing => Rendering::Failed(next),
+            }
+        }
+        Uint::NoNumber(next) => Rendering::Failed(next),
+    }
+}
+
+// The name behind an index, by the owners' numbers. Its two low bits say which table.
+fn type_name(
+    buf: &mut [u8],
+    at: usize,
+    tables: &[u8],
+    strings: &[u8],
+    blob: &[u8],
+    layout: &Layout,
+    owners: &Owners,
+    index: u32,
+    left: usize,
+) -> Place
+    requires { ⌜ Laid (now tables) (now layout) ⌝ }
+    ensures { λ r. ⌜ Said (now (buf .entry)) at (now (buf .exit)) (typeFullName (envOf (now (tables .entry)) (now (layout .entry)) (now (strings .entry)) (now (blob .entry)) (now (owners .entry))) (type (envOf (now (tables .entry)) (now (layout .entry)) (now (strings .entry)) (now (blob .entry)) (now (owners .entry))) left) index .got) (placeSays r) ⌝ }
+{
     let row = index / 4;
     match index % 4 {
         0 => names::push_class_name(buf, at, tables, strings, layout, TypeDefRow(row)),
@@ -307,15 +435,14 @@ pub fn get_type_fullname(
         2 => match sig_leaves::spec_blob(tables, blob, layout, row) {
             Blob::At { start, len } => {
                 let spec = numbers::cut(blob, start, len);
-                match parse_sig_type(
+                match sig_type(
                     buf,
                     at,
                     tables,
                     strings,
                     blob,
                     layout,
-                    class,
-                    method,
+                    owners,
                     spec,
                     0,
                     left,
@@ -338,24 +465,22 @@ fn sig_array(
     strings: &[u8],
     blob: &[u8],
     layout: &Layout,
-    class: Owner,
-    method: Owner,
+    owners: &Owners,
     sig: &[u8],
     pos: usize,
     left: usize,
 ) -> Rendering
     requires { ⌜ Laid (now tables) (now layout) ⌝ }
-    ensures { λ r. ⌜ Rendered (array (type (envIn (now (tables .entry)) (now (layout .entry)) (now (strings .entry)) (now (blob .entry)) class method) left) (now (sig .entry)) pos) (now (buf .entry)) at (now (buf .exit)) r ⌝ }
+    ensures { λ r. ⌜ Rendered (array (type (envOf (now (tables .entry)) (now (layout .entry)) (now (strings .entry)) (now (blob .entry)) (now (owners .entry))) left) (now (sig .entry)) pos) (now (buf .entry)) at (now (buf .exit)) r ⌝ }
 {
-    match parse_sig_type(
+    match sig_type(
         buf,
         at,
         tables,
         strings,
         blob,
         layout,
-        class,
-        method,
+        owners,
         sig,
         pos,
         left,
@@ -365,7 +490,22 @@ fn sig_array(
     }
 }
 
-// 0x15: a type with its arguments, at most 1,000.
+// The first position from this on that does not hold 0x15.
+fn skip_chain(sig: &[u8], pos: usize) -> usize
+    ensures { λ r. ⌜ Chain (now (sig .entry)) pos r ⌝ }
+{
+    let mut p = pos;
+    while p < sig.len() {
+        if sig[p] != 0x15 {
+            return p;
+        }
+        p += 1;
+    }
+    p
+}
+
+// 0x15: a type with its arguments. The first type may be such a type again: the innermost of them is rendered, and then the arguments
+// of each, going outwards.
 fn sig_instance(
     buf: &mut [u8],
     at: usize,
@@ -373,55 +513,101 @@ fn sig_instance(
     strings: &[u8],
     blob: &[u8],
     layout: &Layout,
-    class: Owner,
-    method: Owner,
+    owners: &Owners,
     sig: &[u8],
     pos: usize,
     left: usize,
 ) -> Rendering
     requires { ⌜ Laid (now tables) (now layout) ⌝ }
-    ensures { λ r. ⌜ Rendered (instance (type (envIn (now (tables .entry)) (now (layout .entry)) (now (strings .entry)) (now (blob .entry)) class method) left) (now (sig .entry)) pos) (now (buf .entry)) at (now (buf .exit)) r ⌝ }
+    requires { ⌜ (0 < left) × (pos < length (now sig)) × (getD (now sig) pos 0 ≡ 0x15) ⌝ }
+    ensures { λ r. ⌜ Rendered (type (envOf (now (tables .entry)) (now (layout .entry)) (now (strings .entry)) (now (blob .entry)) (now (owners .entry))) left (now (sig .entry)) pos) (now (buf .entry)) at (now (buf .exit)) r ⌝ }
 {
-    match parse_sig_type(
+    let head = skip_chain(sig, pos + 1);
+    match sig_type(
         buf,
         at,
         tables,
         strings,
         blob,
         layout,
-        class,
-        method,
+        owners,
         sig,
-        pos,
+        head,
         left,
     ) {
-        Rendering::Done(end, after) => match sig_leaves::read_argument_count(sig, after) {
-            Uint::Number(count, first) => {
-                let open = buffers::push(buf, end, b"<");
-                match sig_arguments(
+        Rendering::Done(end, past) => {
+            let mut k = end;
+            let mut p = past;
+            let mut i = head;
+            while pos < i {
+                i -= 1;
+                match sig_argument_list(
                     buf,
-                    open,
+                    k,
                     tables,
                     strings,
                     blob,
                     layout,
-                    class,
-                    method,
+                    owners,
                     sig,
-                    first,
+                    p,
                     left,
-                    count,
                 ) {
-                    Rendering::Done(close, next) => Rendering::Done(
-                        buffers::push(buf, close, b">"),
-                        next,
-                    ),
-                    Rendering::Failed(next) => Rendering::Failed(next),
+                    Rendering::Done(close, next) => {
+                        k = close;
+                        p = next;
+                    }
+                    Rendering::Failed(next) => {
+                        return Rendering::Failed(next);
+                    }
                 }
             }
-            Uint::NoNumber(next) => Rendering::Failed(next),
-        },
+            Rendering::Done(k, p)
+        }
         Rendering::Failed(next) => Rendering::Failed(next),
+    }
+}
+
+// The arguments of a generic type in angle brackets, at most 1,000.
+fn sig_argument_list(
+    buf: &mut [u8],
+    at: usize,
+    tables: &[u8],
+    strings: &[u8],
+    blob: &[u8],
+    layout: &Layout,
+    owners: &Owners,
+    sig: &[u8],
+    pos: usize,
+    left: usize,
+) -> Rendering
+    requires { ⌜ Laid (now tables) (now layout) ⌝ }
+    ensures { λ r. ⌜ Rendered (argumentList (type (envOf (now (tables .entry)) (now (layout .entry)) (now (strings .entry)) (now (blob .entry)) (now (owners .entry))) left) (now (sig .entry)) pos) (now (buf .entry)) at (now (buf .exit)) r ⌝ }
+{
+    match sig_leaves::read_argument_count(sig, pos) {
+        Uint::Number(count, first) => {
+            let open = buffers::push(buf, at, b"<");
+            match sig_arguments(
+                buf,
+                open,
+                tables,
+                strings,
+                blob,
+                layout,
+                owners,
+                sig,
+                first,
+                left,
+                count,
+            ) {
+                Rendering::Done(close, next) => Rendering::Done(
+                    buffers::push(buf, close, b">"),
+                    next,
+                ),
+                Rendering::Failed(next) => Rendering::Failed(next),
+            }
+        }
+        Uint::NoNumber(next) => Rendering::Failed(next),
     }
 }
 
@@ -433,8 +619,7 @@ fn sig_arguments(
     strings: &[u8],
     blob: &[u8],
     layout: &Layout,
-    class: Owner,
-    method: Owner,
+    owners: &Owners,
     sig: &[u8],
     pos: usize,
     left: usize,
@@ -442,7 +627,7 @@ fn sig_arguments(
 ) -> Rendering
     requires { ⌜ Laid (now tables) (now layout) ⌝ }
     requires { ⌜ at ≤ length (now buf) + 1 ⌝ }
-    ensures { λ r. ⌜ Rendered (arguments count 0 (type (envIn (now (tables .entry)) (now (layout .entry)) (now (strings .entry)) (now (blob .entry)) class method) left) (now (sig .entry)) pos) (now (buf .entry)) at (now (buf .exit)) r ⌝ }
+    ensures { λ r. ⌜ Rendered (arguments count 0 (type (envOf (now (tables .entry)) (now (layout .entry)) (now (strings .entry)) (now (blob .entry)) (now (owners .entry))) left) (now (sig .entry)) pos) (now (buf .entry)) at (now (buf .exit)) r ⌝ }
 {
     let n = count as usize;
     let mut p = pos;
@@ -451,15 +636,14 @@ fn sig_arguments(
     while i < n {
         let first = push_sep(buf, k, i, b",");
         i += 1;
-        match parse_sig_type(
+        match sig_type(
             buf,
             first,
             tables,
             strings,
             blob,
             layout,
-            class,
-            method,
+            owners,
             sig,
             p,
             left,
@@ -477,34 +661,32 @@ fn sig_arguments(
 }
 
 // 0x1B: a function pointer, whose signature is a method's (`parse_method_def_signature`).
-fn sig_pointer(
+fn parse_method_def_signature(
     buf: &mut [u8],
     at: usize,
     tables: &[u8],
     strings: &[u8],
     blob: &[u8],
     layout: &Layout,
-    class: Owner,
-    method: Owner,
+    owners: &Owners,
     sig: &[u8],
     pos: usize,
     left: usize,
 ) -> Rendering
     requires { ⌜ Laid (now tables) (now layout) ⌝ }
-    ensures { λ r. ⌜ Rendered (fnPtr (type (envIn (now (tables .entry)) (now (layout .entry)) (now (strings .entry)) (now (blob .entry)) class method) left) (now (sig .entry)) pos) (now (buf .entry)) at (now (buf .exit)) r ⌝ }
+    ensures { λ r. ⌜ Rendered (fnPtr (type (envOf (now (tables .entry)) (now (layout .entry)) (now (strings .entry)) (now (blob .entry)) (now (owners .entry))) left) (now (sig .entry)) pos) (now (buf .entry)) at (now (buf .exit)) r ⌝ }
 {
     match sig_leaves::read_method_start(sig, pos) {
         Uint::Number(count, first) => {
             let open = buffers::push(buf, at, b"FnPtr<");
-            match parse_sig_type(
+            match sig_type(
                 buf,
                 open,
                 tables,
                 strings,
                 blob,
                 layout,
-                class,
-                method,
+                owners,
                 sig,
                 first,
                 left,
@@ -518,8 +700,7 @@ fn sig_pointer(
                         strings,
                         blob,
                         layout,
-                        class,
-                        method,
+                        owners,
                         sig,
                         after,
                         left,
@@ -547,8 +728,7 @@ fn sig_parameters(
     strings: &[u8],
     blob: &[u8],
     layout: &Layout,
-    class: Owner,
-    method: Owner,
+    owners: &Owners,
     sig: &[u8],
     pos: usize,
     left: usize,
@@ -556,7 +736,7 @@ fn sig_parameters(
 ) -> Rendering
     requires { ⌜ Laid (now tables) (now layout) ⌝ }
     requires { ⌜ at ≤ length (now buf) + 1 ⌝ }
-    ensures { λ r. ⌜ Rendered (parameters count 0 (type (envIn (now (tables .entry)) (now (layout .entry)) (now (strings .entry)) (now (blob .entry)) class method) left) (now (sig .entry)) pos) (now (buf .entry)) at (now (buf .exit)) r ⌝ }
+    ensures { λ r. ⌜ Rendered (parameters count 0 (type (envOf (now (tables .entry)) (now (layout .entry)) (now (strings .entry)) (now (blob .entry)) (now (owners .entry))) left) (now (sig .entry)) pos) (now (buf .entry)) at (now (buf .exit)) r ⌝ }
 {
     let n = count as usize;
     let mut p = pos;
@@ -565,15 +745,14 @@ fn sig_parameters(
     while i < n {
         let first = push_sep(buf, k, i, b", ");
         i += 1;
-        match parse_sig_type(
+        match sig_type(
             buf,
             first,
             tables,
             strings,
             blob,
             layout,
-            class,
-            method,
+            owners,
             sig,
             p,
             left,
