@@ -1,6 +1,8 @@
 """Streams made by hand for the public calls, each with its name, for `record_calls`."""
 
-from assembly import FIELD, GENERIC_PARAM, METHOD_DEF, NESTED_CLASS, TYPE_DEF, TYPE_REF, Assembly
+from assembly import (FIELD, GENERIC_PARAM, INTERFACE_IMPL, METHOD_DEF, NESTED_CLASS, PARAM, TYPE_DEF, TYPE_REF, TYPE_SPEC,
+                      Assembly)
+from dice import shortest
 
 # A name that runs into the end of the strings.
 UNTERMINATED = object()
@@ -31,21 +33,34 @@ class Still:
 
 
 class Case:
-    """Tables of few columns: a type is (flags, name, namespace, first method), a method (flags, name), a generic parameter (owner,
-    name). TypeDef row 1 is added, so that `types` begin with row 2, class 0. A name is its bytes, None for none, or a number for an
-    index into the strings. `others` are counts of further tables, all zeros."""
+    """Tables of few columns: a type is (flags, name, namespace, first method) and may have its Extends column behind them, a method
+    (flags, name) and may have its signature and its first parameter behind them, a generic parameter is (owner, name), a parameter
+    its name, a reference (name, namespace), a specification its signature, an interface the row itself. TypeDef row 1 is added, so that
+    `types` begin with row 2, class 0. A name is its bytes, None for none, or a number for an index into the strings; a signature the
+    same in the blobs. `others` are counts of further tables, all zeros."""
 
-    def __init__(self, name, types=(), methods=(), nested=(), generics=(), heap_bits=0, others=None, module=1, edit=None):
+    def __init__(self, name, types=(), methods=(), nested=(), generics=(), params=(), refs=(), specs=(), interfaces=(), heap_bits=0,
+                 others=None, module=1, edit=None):
         self.name = name
-        self.types = [(0, b"<Module>", None, module), *types]
-        self.methods, self.nested, self.generics = methods, nested, generics
+        self.types = [(*row, 0)[:5] for row in [(0, b"<Module>", None, module), *types]]
+        self.methods = [(*row, *(None, 1)[len(row) - 2:]) for row in methods]
+        self.nested, self.generics, self.params, self.refs = nested, generics, params, refs
+        self.specs, self.interfaces = specs, interfaces
         self.heap_bits, self.others = heap_bits, others or {}
         self.edit = edit or (lambda made, tables, strings, blob: (tables, strings, blob))
 
+    def names(self):
+        yield from (name for _, *both, _, _ in self.types for name in both)
+        yield from (name for _, name, _, _ in self.methods)
+        yield from (name for _, name in self.generics)
+        yield from self.params
+        yield from (name for both in self.refs for name in both)
+
     def streams(self):
-        tables = {TYPE_DEF: self.types, METHOD_DEF: self.methods, NESTED_CLASS: self.nested, GENERIC_PARAM: self.generics}
+        tables = {TYPE_REF: self.refs, TYPE_DEF: self.types, METHOD_DEF: self.methods, PARAM: self.params,
+                  INTERFACE_IMPL: self.interfaces, TYPE_SPEC: self.specs, NESTED_CLASS: self.nested, GENERIC_PARAM: self.generics}
         made = Assembly(Still(), {**{kind: len(rows) for kind, rows in tables.items()}, **self.others}, self.heap_bits)
-        names = [name for _, *both, _ in self.types for name in both] + [name for _, name in [*self.methods, *self.generics]]
+        names = list(self.names())
         for name in names:
             if isinstance(name, bytes):
                 made.add_name(name)
@@ -53,10 +68,15 @@ class Case:
         if UNTERMINATED in names:
             made.strings += b"open"
         index = lambda name: made.add_name(name) if isinstance(name, bytes) else indices.get(name, name)
+        blob = lambda sig: made.add_blob(sig) if isinstance(sig, bytes) else indices.get(sig, sig)
         rows = {
-            TYPE_DEF: [[flags, index(name), index(space), 0, 1, first]
-                       for flags, name, space, first in self.types],
-            METHOD_DEF: [[0, 0, flags, index(name), 0, 1] for flags, name in self.methods],
+            TYPE_REF: [[0, index(name), index(space)] for name, space in self.refs],
+            TYPE_DEF: [[flags, index(name), index(space), extends, 1, first]
+                       for flags, name, space, first, extends in self.types],
+            METHOD_DEF: [[0, 0, flags, index(name), blob(sig), first] for flags, name, sig, first in self.methods],
+            PARAM: [[0, 0, index(name)] for name in self.params],
+            INTERFACE_IMPL: self.interfaces,
+            TYPE_SPEC: [[blob(sig)] for sig in self.specs],
             NESTED_CLASS: self.nested,
             GENERIC_PARAM: [[0, 0, owner, index(name)] for owner, name in self.generics],
         }
@@ -75,8 +95,26 @@ class Bytes:
         return self.given
 
 
-def plain(name, space=None, first=1, flags=1):
-    return flags, name, space, first
+def plain(name, space=None, first=1, flags=1, extends=0):
+    return flags, name, space, first, extends
+
+
+# TypeDefOrRef columns (II.24.2.6).
+def of_def(row):
+    return row << 2
+
+
+def of_ref(row):
+    return row << 2 | 1
+
+
+def of_spec(row):
+    return row << 2 | 2
+
+
+def signature(returns, *params, flags=0):
+    """The signature of a method, of its types."""
+    return bytes([flags]) + shortest(len(params)) + returns + b"".join(params)
 
 
 def cut_in(kind, rows, more):
@@ -245,6 +283,121 @@ def refused_cases():
     yield Case("refused: 15,001 rows of a later table", [A], generics=[(4, b"T")], edit=with_count(GENERIC_PARAM, 15001))
 
 
+REFS = [(b"Object", b"System"), (b"List`1", b"System.Collections"), (b"NoSpace", None), (b"", b"Empty"), (None, b"Missing"),
+        (UNTERMINATED, b"N"), (b"A", UNTERMINATED)]
+
+
+def base_cases():
+    yield Case("bases, a reference for each", [plain(b"C%d" % i, extends=of_ref(i)) for i in range(9)], refs=REFS)
+    yield Case("bases, classes: itself, a later and an earlier one", [plain(b"A", b"N", extends=of_def(2)), plain(b"B", extends=of_def(4)),
+                                                                     plain(b"C`1", b"M", extends=of_def(2))])
+    yield Case("bases, TypeDef rows 0 and 1, past the end, without a name",
+               [plain(b"A", extends=of_def(row)) for row in (0, 1, 7, 8, 16383)] + [plain(None, extends=of_def(6))])
+    yield Case("bases, tag 3", [plain(b"A", extends=3), plain(b"B", extends=of_def(2) | 3), plain(b"C", extends=65535)], refs=REFS)
+    yield Case("bases, specifications", [plain(b"A", extends=of_spec(row)) for row in (0, 1, 2, 3, 4, 5, 6, 7, 8)], refs=REFS,
+               generics=[(4, b"T"), (6, b"U")],
+               specs=[bytes.fromhex(sig) for sig in ("15120902081300", "1300", "17", "1D0E", "1408020000", "121E", "1B0002011708")])
+    yield Case("bases, a nested class", [A, plain(b"B", b"M", extends=of_def(4)), plain(b"C", extends=of_def(3))], nested=[(3, 2), (4, 3)])
+    yield Case("bases, interfaces in order", [plain(b"A", extends=of_ref(1)), plain(b"B")], refs=REFS,
+               interfaces=[(2, of_ref(2)), (3, of_ref(3)), (2, of_def(3)), (3, of_def(2)), (2, of_ref(2)), (3, of_ref(1))])
+    yield Case("bases, interfaces without names", [plain(b"A", extends=of_ref(5)), plain(b"B")], refs=REFS,
+               interfaces=[(2, of_ref(5)), (2, of_ref(4)), (2, 0), (2, of_ref(6)), (2, of_ref(7)), (2, 3), (2, of_spec(1)), (2, of_ref(8))])
+    yield Case("bases, interfaces of rows 0 and 1, past the end", [plain(b"A", extends=of_ref(1)), plain(b"B", extends=of_ref(2))],
+               refs=REFS, interfaces=[(0, of_ref(1)), (1, of_ref(1)), (4, of_ref(1)), (65535, of_ref(1)), (3, of_ref(3))])
+    yield Case("bases, interfaces of generics", [plain(b"A"), plain(b"B")], refs=REFS, generics=[(6, b"U"), (4, b"T")],
+               specs=[b"\x13\0", b"\x15\x12\x09\1\x13\0", b"\x1e\0"], interfaces=[(i, of_spec(n)) for i in (2, 3) for n in (1, 2, 3)])
+    sizes = 63, 64, 65, 66, 200
+    yield Case("bases of 63 to 200 bytes", [plain(b"A", extends=of_ref(i + 1)) for i in range(len(sizes))],
+               refs=[(bytes([0x61 + i]) * n, None) for i, n in enumerate(sizes)])
+    whole = dict(types=[plain(b"A", extends=of_ref(1)), plain(b"B", extends=of_def(2))], refs=REFS[:3],
+                 interfaces=[(2, of_ref(3)), (3, of_ref(1)), (2, of_ref(2)), (3, of_ref(3))], generics=[(4, b"T")])
+    for kind, name, size in ((INTERFACE_IMPL, "InterfaceImpl", 4), (TYPE_REF, "TypeRef", 6)):
+        for rows, more in ((0, 0), (0, size - 1), (1, 0), (2, 1), (2, size - 1)):
+            yield Case("bases, cut in %s, %d bytes after row %d" % (name, more, rows), edit=cut_in(kind, rows, more), **whole)
+
+
+def type_cases():
+    """A method for each type, which it returns and takes."""
+    texts = ("01", "02", "03", "04", "05", "06", "07", "08", "09", "0A", "0B", "0C", "0D", "0E", "16", "18", "19", "1C",  # simple
+             "1D0F01", "1408020000", "14080101050106", "14080100017B", "1B0002011708", "17", "0F" * 16 + "08", "0F" * 17 + "08",
+             "1D" * 40 + "08", "1208", "1109", "1204", "1200", "120D", "1215", "1203", "12E0", "1300", "1301", "1302", "1E00", "1E01",
+             "1512090108", "151209020E17", "1512090213001E00", "1B10010001", "1F0508", "20091D0E", "1F0517", "101408020000",
+             "1206", "120A", "120E", "1212", "140880640000", "")
+    sigs = [bytes.fromhex(text) for text in texts]
+    generics = [(4, b"T"), (4, b"TKey`1"), (3, b"X")]
+    specs = [b"\x1d\x08", b"\x12\x0a", b"\x0f\x12\x0e", b"\x17"]
+    for part in range(0, len(sigs), 9):
+        yield Case("types %d to %d" % (part, part + 8), [A], [(i, b"m%d" % i, signature(sig, sig, sig + b"\x08", b"\x0e"))
+                                                             for i, sig in enumerate(sigs[part:part + 9])],
+                   generics=generics, refs=REFS, specs=specs, params=[b"first", b"second"])
+
+
+def signed(*signatures):
+    """A method for each signature, in hex."""
+    return [(i, b"m%d" % i, bytes.fromhex(signature)) for i, signature in enumerate(signatures)]
+
+
+def signature_cases():
+    void, number = b"\x01", b"\x08"
+    two = signature(void, number, b"\x0e")
+    names = [b"a", b"", None, UNTERMINATED, 9999, b"f"]
+    yield Case("signatures, parameters and their rows", [A], [(0, b"m%d" % i, two, i) for i in range(9)], params=names)
+    yield Case("signatures, no Param table", [A], [(0, b"m%d" % i, two, i) for i in (0, 1, 2, 65535)])
+    yield Case("signatures, twelve parameters past the table", [A], [(0, b"m", signature(void, *[number] * 12), 2)], params=[b"a", b"b"])
+    yield Case("signatures, 120 parameters", [A], [(0, b"m", signature(void, *[b"\x08", b"\x0e", b"\x17"] * 40), 1)], params=names)
+    yield Case("signatures, parameters that fail", [A],
+               signed("000301170817", "000301081708", "0003010812E008", "000301", "00030108", "000301081D", "00020112800108",
+                      "0002011408E008"), params=[b"a", b"b", b"c"])
+    yield Case("signatures that fail", [A],
+               signed("", "00", "0001", "000117", "00E001", "10", "10E00001", "1001", "100100", "00870108", "0087D108", "100101080E",
+                      "200008", "050001"))
+    yield Case("signatures of 2,000 and 2,001 parameters", [A], signed("0087CF01080E", "0087D001080E", "0087D101080E"))
+    yield Case("signatures, the blob at 0, past the end and cut", [A], [(0, b"f", None), (1, b"g", 9999), (2, b"h", 1), (3, b"i", 2)],
+               edit=lambda made, tables, strings, blob: (tables, strings, b"\3\0\0\x08\x05\0\0\x01"))
+    yield Case("signatures without any blob", [A], [(0, b"f", None), (1, b"g", 1)],
+               edit=lambda made, tables, strings, blob: (tables, strings, b""))
+    yield Case("signatures of constructors", [A], [(0, b".ctor", two), (1, b".cctor", signature(void)), (2, b".ctor", signature(number))],
+               params=[b"x", b"y"])
+
+
+def pairing_cases():
+    """Which class's generic parameters a signature is read with."""
+    sig = signature(b"\x13\0", b"\x13\1", b"\x1e\0")
+    five = [(i, b"m%d" % i, sig) for i in range(5)]
+    both = [(4, b"T0"), (6, b"T1"), (8, b"T2"), (4, b"U0"), (8, b"U2"), (10, b"T3"), (10, b"U3"), (3, b"X0"), (7, b"X2")]
+
+    def firsts(name, columns, methods=five, generics=both, **more):
+        types = [plain(b"C%d" % i, first=column) for i, column in enumerate(columns)]
+        return Case("pairing, " + name, types, methods, generics=generics, **more)
+
+    yield firsts("in order", [1, 2, 4])
+    yield firsts("three classes starting at 0, 3, 1 of five", [1, 4, 2])
+    yield firsts("the same, and a class without generics reads last", [1, 4, 2], generics=[(6, b"T1"), (8, b"T2"), (8, b"U2")])
+    yield firsts("last first", [5, 4, 3, 2])
+    yield firsts("equal columns", [2, 2, 2])
+    yield firsts("columns of 0", [0, 3, 0, 1])
+    yield firsts("just after the last", [1, 6, 3, 6])
+    yield firsts("past the end for the first class", [7, 1, 3])
+    yield firsts("past the end for the last class", [1, 3, 7])
+    yield firsts("past the end for one in the middle", [2, 65535, 4, 3])
+    yield firsts("past the end for all", [300, 65535, 7])
+    yield firsts("past the end, 0 and out of order", [4, 0, 9, 2], module=0)
+    yield firsts("a later reading that fails", [1, 4, 2], methods=[(i, b"m%d" % i, signature(b"\x13\1", b"\x13\0")) for i in range(5)],
+                 generics=[(4, b"T0"), (6, b"T1"), (8, b"T2"), (8, b"U2"), (6, b"U1")])
+
+
+def wide_cases():
+    whole = dict(types=[plain(b"A", b"N", extends=of_ref(1)), plain(b"B`1", None, 2, extends=of_spec(1))], refs=REFS[:2],
+                 methods=[(1, b"f", signature(b"\x12\x05", b"\x0e"), 1), (2, b"g", signature(b"\x13\0", b"\x12\x06", b"\x08"), 2)],
+                 params=[b"a", b"b", b"c"], interfaces=[(2, of_def(3)), (3, of_def(2))], specs=[b"\x15\x12\x09\1\x13\0"],
+                 generics=[(6, b"T"), (5, b"X")], nested=[(3, 2)])
+    for bits in (0x00, 0x01, 0x04, 0x05, 0x47):
+        yield Case("signatures, heap sizes 0x%02X" % bits, heap_bits=bits, **whole)
+    for kind, name, size in ((METHOD_DEF, "MethodDef", 14), (PARAM, "Param", 6), (TYPE_SPEC, "TypeSpec", 2)):
+        for rows, more in ((0, 0), (0, size - 1), (1, 0)):
+            yield Case("signatures, cut in %s, %d bytes after row %d" % (name, more, rows), edit=cut_in(kind, rows, more), **whole)
+
+
 def document_cases():
     yield Bytes("the whole case of document 01",
                 "00000000 02 00 00 01 0400000000000000 0000000000000000 02000000 0000000000000000000000000000"
@@ -252,5 +405,6 @@ def document_cases():
 
 
 def all_cases():
-    for cases in (document_cases, name_cases, nested_cases, generic_cases, method_cases, cut_cases, heap_cases, refused_cases):
+    for cases in (document_cases, name_cases, nested_cases, generic_cases, method_cases, cut_cases, heap_cases, base_cases, type_cases,
+                  signature_cases, pairing_cases, wide_cases, refused_cases):
         yield from cases()

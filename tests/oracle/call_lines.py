@@ -7,6 +7,8 @@ from assembly import METHOD_DEF, TYPE_DEF, bundle
 
 # A longer name is left out: the program's buffer has two bytes more.
 LONGEST = 16382
+# Of a longer list than twice that, only so many from either end are asked for.
+ENDS = 24
 NO_ROW, NAMELESS = "!4", "!5"
 LAST = 0xFFFFFFFF
 
@@ -53,25 +55,35 @@ def name_of(present, digits):
 
 
 def read_record(answer):
-    """The refusal and the classes: each its name, flags, the names of its generic parameters and its methods, which have the same
-    but for methods."""
-    refusal, classes = None, []
+    """The refusal and the classes: each its name, flags, the names of its generic parameters and base types, and its methods: name,
+    flags, generic parameters, return type and the type and name of each parameter."""
+    refusal, classes, method = None, [], None
     for line in answer.decode().splitlines():
         key, present, value = line.partition("=")
+        name = name_of(present, value)
         if key == "refused":
             refusal = int(value)
         elif key == "class":
-            classes.append({"name": name_of(present, value), "generics": [], "methods": []})
+            classes.append({"name": name, "generics": [], "bases": [], "methods": []})
         elif key == "flags":
             classes[-1]["flags"] = value
         elif key == "generic":
-            classes[-1]["generics"].append(name_of(present, value))
+            classes[-1]["generics"].append(name)
+        elif key == "base":
+            classes[-1]["bases"].append(name)
         elif key == "method":
-            classes[-1]["methods"].append({"name": name_of(present, value), "generics": []})
+            method = {"name": name, "generics": [], "types": [], "names": []}
+            classes[-1]["methods"].append(method)
         elif key == "mflags":
-            classes[-1]["methods"][-1]["flags"] = value
+            method["flags"] = value
         elif key == "mgeneric":
-            classes[-1]["methods"][-1]["generics"].append(name_of(present, value))
+            method["generics"].append(name)
+        elif key == "returns":
+            method["returns"] = name
+        elif key == "ptype":
+            method["types"].append(name)
+        elif key == "pname":
+            method["names"].append(name)
     return refusal, classes
 
 
@@ -84,6 +96,10 @@ def of_missing_method(c, m, refusal=NO_ROW):
     yield line("method_name", (c, m), refusal)
     yield line("method_generic_count", (c, m), refusal)
     yield line("method_generic_name", (c, m, 0), refusal)
+    yield line("return_type", (c, m), refusal)
+    yield line("param_count", (c, m), refusal)
+    yield line("param_type", (c, m, 0), refusal)
+    yield line("param_name", (c, m, 0), refusal)
 
 
 def of_missing_class(c, refusal=NO_ROW):
@@ -91,33 +107,49 @@ def of_missing_class(c, refusal=NO_ROW):
     yield line("class_name", (c,), refusal)
     yield line("generic_count", (c,), refusal)
     yield line("generic_name", (c, 0), refusal)
+    yield line("base_count", (c,), refusal)
+    yield line("base_name", (c, 0), refusal)
     yield line("method_count", (c,), refusal)
     yield from of_missing_method(c, 0, refusal)
 
 
-def of_generics(kind, numbers, names):
+def of_list(call, numbers, names):
+    """The answers of a call for a name by its place; of a long list those near both ends. Then that for the place just past the end."""
+    for i, name in enumerate(names):
+        if i < ENDS or len(names) - i <= ENDS:
+            yield line(call, (*numbers, i), name)
+    yield line(call, (*numbers, len(names)), NO_ROW)
+
+
+def of_counted(kind, numbers, names):
     yield line(kind + "_count", numbers, len(names))
-    for g, name in enumerate(names):
-        yield line(kind + "_name", (*numbers, g), name)
-    yield line(kind + "_name", (*numbers, len(names)), NO_ROW)
+    yield from of_list(kind + "_name", numbers, names)
+
+
+def of_method(c, m, found):
+    yield line("method_flags", (c, m), found["flags"])
+    yield line("method_name", (c, m), found["name"])
+    yield from of_counted("method_generic", (c, m), found["generics"])
+    yield line("return_type", (c, m), found["returns"])
+    yield from of_counted("param", (c, m), found["names"])
+    yield from of_list("param_type", (c, m), found["types"])
 
 
 def of_class(c, found, thorough):
     yield line("class_flags", (c,), found["flags"])
     yield line("class_name", (c,), found["name"])
-    yield from of_generics("generic", (c,), found["generics"])
+    yield from of_counted("generic", (c,), found["generics"])
+    yield from of_counted("base", (c,), found["bases"])
     yield line("method_count", (c,), len(found["methods"]))
     for m, method in enumerate(found["methods"]):
-        yield line("method_flags", (c, m), method["flags"])
-        yield line("method_name", (c, m), method["name"])
-        yield from of_generics("method_generic", (c, m), method["generics"])
+        yield from of_method(c, m, method)
     past = len(found["methods"])
     yield from of_missing_method(c, past) if thorough else [line("method_name", (c, past), NO_ROW)]
 
 
 def answers(record, thorough):
-    """A line for each answer of the record but those that are too long, and for some that are refused: just past each end, and, if it
-    is to be thorough, by every call there and at the largest numbers."""
+    """A line for each answer of the record but those that are too long or in the middle of a long list, and for some that are refused:
+    just past each end, and, if it is to be thorough, by every call there and at the largest numbers."""
     refusal, classes = read_record(record)
     if refusal:
         yield line("class_count", (), "!%d" % refusal)
@@ -130,7 +162,11 @@ def answers(record, thorough):
         yield from of_missing_class(c)
     if classes and thorough:
         yield line("generic_name", (0, LAST), NO_ROW)
+        yield line("base_name", (0, LAST), NO_ROW)
         yield from of_missing_method(0, LAST)
+        if classes[0]["methods"]:
+            for call in ("method_generic_name", "param_type", "param_name"):
+                yield line(call, (0, 0, LAST), NO_ROW)
 
 
 def is_short(line):

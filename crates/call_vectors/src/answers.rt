@@ -1,6 +1,7 @@
 // One recorded answer, `CALL NUMBERS = ANSWER`: the call is asked, and all that it hands back compared. The answer is a number, a name
 // in hex, or `!` and the number of a refusal. A name is asked for with buffers of every length up to two more than its own, a name
-// that is refused with those of up to four bytes; each buffer holds 0xAA before.
+// that is refused with those of up to four bytes; of a name of more than 64 bytes the lengths up to 8 and those from four less than its
+// own are tried. Each length is tried with a buffer that holds 0x00 before, one that holds 0xAA and one that holds 0xFF.
 use buffers::Refusal;
 use buffers::Reply;
 use buffers::refusal_number;
@@ -11,12 +12,12 @@ use check::same;
 use classes::ClassNumber;
 use header::base_options;
 
-// The numbers of a line: a class; its method, or its generic parameter; a generic parameter of that method. Those that a call does
-// not take count for nothing.
+// The numbers of a line: a class; its method, generic parameter or base type; a generic parameter or a parameter of that method. Those
+// that a call does not take count for nothing.
 struct Asked {
     class: ClassNumber,
     member: u32,
-    generic: u32,
+    part: u32,
 }
 
 pub fn agrees(line: &[u8], tables: &[u8], strings: &[u8], blob: &[u8]) -> bool {
@@ -35,11 +36,11 @@ fn asked_in(numbers: &[u8]) -> Asked {
     let after_class = after(numbers, class.len());
     let member = first(after_class);
     let after_member = after(after_class, member.len());
-    let generic = first(after_member);
+    let part = first(after_member);
     Asked {
         class: ClassNumber(read_u32(class)),
         member: read_u32(member),
-        generic: read_u32(generic),
+        part: read_u32(part),
     }
 }
 
@@ -51,37 +52,53 @@ fn is_of_name(call: &[u8]) -> bool {
     if call.len() < 5 {
         return false;
     }
-    same(numbers::cut(call, call.len() - 5, 5), b"_name")
+    let last = numbers::cut(call, call.len() - 5, 5);
+    if same(last, b"_name") {
+        return true;
+    }
+    same(last, b"_type")
+}
+
+fn ask_number(call: &[u8], tables: &[u8], strings: &[u8], blob: &[u8], asked: Asked) -> Reply {
+    let options = base_options();
+    let class = asked.class;
+    if same(call, b"class_count") {
+        return dotnet::class_count(tables, strings, blob, options);
+    }
+    if same(call, b"class_flags") {
+        return dotnet::class_flags(tables, strings, blob, options, class);
+    }
+    if same(call, b"generic_count") {
+        return dotnet::generic_count(tables, strings, blob, options, class);
+    }
+    if same(call, b"base_count") {
+        return dotnet::base_count(tables, strings, blob, options, class);
+    }
+    if same(call, b"method_count") {
+        return dotnet::method_count(tables, strings, blob, options, class);
+    }
+    ask_method_number(call, tables, strings, blob, asked)
 }
 
 // 8 answers a call that there is not.
-fn ask_number(call: &[u8], tables: &[u8], strings: &[u8], blob: &[u8], asked: Asked) -> Reply {
+fn ask_method_number(
+    call: &[u8],
+    tables: &[u8],
+    strings: &[u8],
+    blob: &[u8],
+    asked: Asked,
+) -> Reply {
+    let options = base_options();
     let class = asked.class;
     let m = asked.member;
-    if same(call, b"class_count") {
-        return class_calls::class_count(tables, strings, blob, base_options());
-    }
-    if same(call, b"class_flags") {
-        return class_calls::class_flags(tables, strings, blob, base_options(), class);
-    }
-    if same(call, b"generic_count") {
-        return generic_calls::generic_count(tables, strings, blob, base_options(), class);
-    }
-    if same(call, b"method_count") {
-        return method_calls::method_count(tables, strings, blob, base_options(), class);
-    }
     if same(call, b"method_flags") {
-        return method_calls::method_flags(tables, strings, blob, base_options(), class, m);
+        return dotnet::method_flags(tables, strings, blob, options, class, m);
     }
     if same(call, b"method_generic_count") {
-        return method_generic_calls::method_generic_count(
-            tables,
-            strings,
-            blob,
-            base_options(),
-            class,
-            m,
-        );
+        return dotnet::method_generic_count(tables, strings, blob, options, class, m);
+    }
+    if same(call, b"param_count") {
+        return dotnet::param_count(tables, strings, blob, options, class, m);
     }
     Reply::No(Refusal::BadInput)
 }
@@ -94,29 +111,47 @@ fn ask_name(
     asked: Asked,
     buf: &mut [u8],
 ) -> Reply {
+    let options = base_options();
     let class = asked.class;
-    let m = asked.member;
-    let g = asked.generic;
+    let i = asked.member;
     if same(call, b"class_name") {
-        return class_calls::class_name(tables, strings, blob, base_options(), class, buf);
+        return dotnet::class_name(tables, strings, blob, options, class, buf);
     }
     if same(call, b"generic_name") {
-        return generic_calls::generic_name(tables, strings, blob, base_options(), class, m, buf);
+        return dotnet::generic_name(tables, strings, blob, options, class, i, buf);
     }
+    if same(call, b"base_name") {
+        return dotnet::base_name(tables, strings, blob, options, class, i, buf);
+    }
+    ask_method_name(call, tables, strings, blob, asked, buf)
+}
+
+fn ask_method_name(
+    call: &[u8],
+    tables: &[u8],
+    strings: &[u8],
+    blob: &[u8],
+    asked: Asked,
+    buf: &mut [u8],
+) -> Reply {
+    let options = base_options();
+    let class = asked.class;
+    let m = asked.member;
+    let i = asked.part;
     if same(call, b"method_name") {
-        return method_calls::method_name(tables, strings, blob, base_options(), class, m, buf);
+        return dotnet::method_name(tables, strings, blob, options, class, m, buf);
     }
     if same(call, b"method_generic_name") {
-        return method_generic_calls::method_generic_name(
-            tables,
-            strings,
-            blob,
-            base_options(),
-            class,
-            m,
-            g,
-            buf,
-        );
+        return dotnet::method_generic_name(tables, strings, blob, options, class, m, i, buf);
+    }
+    if same(call, b"return_type") {
+        return dotnet::return_type(tables, strings, blob, options, class, m, buf);
+    }
+    if same(call, b"param_type") {
+        return dotnet::param_type(tables, strings, blob, options, class, m, i, buf);
+    }
+    if same(call, b"param_name") {
+        return dotnet::param_name(tables, strings, blob, options, class, m, i, buf);
     }
     Reply::No(Refusal::BadInput)
 }
@@ -197,7 +232,66 @@ fn room_agrees(
     name: &[u8],
     room: usize,
 ) -> bool {
-    let mut space = [0xAAu8; 16384];
+    if !is_tried(room, name.len()) {
+        return true;
+    }
+    fill_agrees(
+        call,
+        tables,
+        strings,
+        blob,
+        asked,
+        refusal,
+        name,
+        room,
+        0x00,
+    )
+        && fill_agrees(
+            call,
+            tables,
+            strings,
+            blob,
+            asked,
+            refusal,
+            name,
+            room,
+            0xAA,
+        )
+        && fill_agrees(
+            call,
+            tables,
+            strings,
+            blob,
+            asked,
+            refusal,
+            name,
+            room,
+            0xFF,
+        )
+}
+
+fn is_tried(room: usize, length: usize) -> bool {
+    if length <= 64 {
+        return true;
+    }
+    if room <= 8 {
+        return true;
+    }
+    length - 4 <= room
+}
+
+fn fill_agrees(
+    call: &[u8],
+    tables: &[u8],
+    strings: &[u8],
+    blob: &[u8],
+    asked: Asked,
+    refusal: usize,
+    name: &[u8],
+    room: usize,
+    fill: u8,
+) -> bool {
+    let mut space = [fill; 16384];
     let came = ask_in(&mut space, room, call, tables, strings, blob, asked);
     reply_agrees(came, refusal, name, numbers::cut(&space, 0, room))
 }

@@ -76,6 +76,22 @@ fn read_stream(line: &[u8], out: &mut [u8]) -> usize {
     case_text::read_hex(case_text::after(line, key.len()), out)
 }
 
+// Asks the three streams of these lines.
+fn run_streams(line1: &[u8], line2: &[u8], line3: &[u8], answers: &[u8]) -> Tally {
+    let mut tables = [0u8; 65536];
+    let t = read_stream(line1, &mut tables);
+    let mut strings = [0u8; 65536];
+    let s = read_stream(line2, &mut strings);
+    let mut blob = [0u8; 65536];
+    let b = read_stream(line3, &mut blob);
+    run_answers(
+        answers,
+        numbers::cut(&tables, 0, t),
+        numbers::cut(&strings, 0, s),
+        numbers::cut(&blob, 0, b),
+    )
+}
+
 fn run_block(block: &[u8]) {
     let name = case_text::line(block);
     let after_name = case_text::after(block, name.len());
@@ -85,19 +101,7 @@ fn run_block(block: &[u8]) {
     let after_strings = case_text::after(after_tables, line2.len());
     let line3 = case_text::line(after_strings);
     let answers = case_text::after(after_strings, line3.len());
-    let mut tables = [0u8; 65536];
-    let t = read_stream(line1, &mut tables);
-    let mut strings = [0u8; 65536];
-    let s = read_stream(line2, &mut strings);
-    let mut blob = [0u8; 65536];
-    let b = read_stream(line3, &mut blob);
-    let tally = run_answers(
-        answers,
-        numbers::cut(&tables, 0, t),
-        numbers::cut(&strings, 0, s),
-        numbers::cut(&blob, 0, b),
-    );
-    write_tally(name, tally);
+    write_tally(name, run_streams(line1, line2, line3, answers));
 }
 
 fn run_blocks(text: &[u8]) {

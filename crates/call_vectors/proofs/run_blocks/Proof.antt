@@ -15,43 +15,43 @@ Inv-loop text at₀ at = Unit {0}
 abbrev μ-loop : tie.MeasureT-loop
 μ-loop text at₀ at = length text - at
 
--- src/main.rt:104:9
+-- src/main.rt:108:9
 find-byte-requires : tie.Need-find-byte-requires Inv-loop μ-loop
 find-byte-requires c κs = search needs
 
--- src/main.rt:105:5
+-- src/main.rt:109:5
 loop-holds : tie.Need-loop-holds Inv-loop μ-loop
 loop-holds c = search needs
 
--- src/main.rt:106:21
+-- src/main.rt:110:21
 add-start : tie.Need-add-start Inv-loop μ-loop
 add-start c = search needs
 
--- src/main.rt:107:9
+-- src/main.rt:111:9
 find-byte-requires-2 : tie.Need-find-byte-requires-2 Inv-loop μ-loop
 find-byte-requires-2 c κs = search needs
 
--- src/main.rt:108:45
+-- src/main.rt:112:45
 sub-cut : tie.Need-sub-cut Inv-loop μ-loop
 sub-cut c = search needs
 
--- src/main.rt:108:19
+-- src/main.rt:112:19
 cut-requires : tie.Need-cut-requires Inv-loop μ-loop
 cut-requires c κs = search needs
 
--- src/main.rt:108:9
+-- src/main.rt:112:9
 run-block-requires : tie.Need-run-block-requires Inv-loop μ-loop
 run-block-requires c κs = search needs
 
--- src/main.rt:105:5
+-- src/main.rt:109:5
 loop-less : tie.Need-loop-less Inv-loop μ-loop
 loop-less c = search needs
 
--- src/main.rt:105:5
+-- src/main.rt:109:5
 loop-again : tie.Need-loop-again Inv-loop μ-loop
 loop-again c = search needs
 
--- src/main.rt:103:1
+-- src/main.rt:107:1
 returns : tie.Need-returns Inv-loop μ-loop
 returns c = search needs
 

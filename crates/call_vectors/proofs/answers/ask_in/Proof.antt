@@ -8,27 +8,27 @@ use Rattle.call_vectors.proofs.answers.ask_in.Reads as reads
 use Rattle.call_vectors.proofs.answers.ask_in.Lts as lts
 use Rattle.call_vectors.proofs.answers.ask_name.Reads as ask-name-reads
 
--- src/answers.rt:215:9
+-- src/answers.rt:279:9
 returns : tie.Need-returns
 returns c = search needs
 
--- src/answers.rt:217:50
+-- src/answers.rt:281:50
 slice-relend-prefix-ask-name : tie.Need-slice-relend-prefix-ask-name
 slice-relend-prefix-ask-name c = search needs
 
--- src/answers.rt:217:50
+-- src/answers.rt:281:50
 slice-aggregate-ask-name : tie.Need-slice-aggregate-ask-name
 slice-aggregate-ask-name c = let a = c .before .before .before .before .before .before .before .args in sym (length-take-le (a .room) (a .buffer .now) (omega arith))
 
--- src/answers.rt:217:5
+-- src/answers.rt:281:5
 ask-name-requires : tie.Need-ask-name-requires
 ask-name-requires c κs = search needs
 
--- src/answers.rt:205:1
+-- src/answers.rt:269:1
 same-length : tie.Need-same-length
 same-length c = search needs
 
--- src/answers.rt:205:1
+-- src/answers.rt:269:1
 returns-2 : tie.Need-returns-2
 returns-2 c = search needs
 

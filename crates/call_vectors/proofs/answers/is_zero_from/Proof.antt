@@ -12,31 +12,31 @@ Inv-loop buffer from i₀ i = Unit {0}
 abbrev μ-loop : tie.MeasureT-loop
 μ-loop buffer from i₀ i = length buffer - i
 
--- src/answers.rt:249:5
+-- src/answers.rt:313:5
 loop-holds : tie.Need-loop-holds Inv-loop μ-loop
 loop-holds c = search needs
 
--- src/answers.rt:250:12
+-- src/answers.rt:314:12
 shared-slice-read-if1 : tie.Need-shared-slice-read-if1 Inv-loop μ-loop
 shared-slice-read-if1 c = search needs
 
--- src/answers.rt:251:13
+-- src/answers.rt:315:13
 returns : tie.Need-returns Inv-loop μ-loop
 returns c = search needs
 
--- src/answers.rt:253:9
+-- src/answers.rt:317:9
 add-i : tie.Need-add-i Inv-loop μ-loop
 add-i c = search needs
 
--- src/answers.rt:249:5
+-- src/answers.rt:313:5
 loop-less : tie.Need-loop-less Inv-loop μ-loop
 loop-less c = search needs
 
--- src/answers.rt:249:5
+-- src/answers.rt:313:5
 loop-again : tie.Need-loop-again Inv-loop μ-loop
 loop-again c = search needs
 
--- src/answers.rt:247:1
+-- src/answers.rt:311:1
 returns-2 : tie.Need-returns-2 Inv-loop μ-loop
 returns-2 c = search needs
 

@@ -12,35 +12,35 @@ Inv-loop call tables strings blob asked refusal name last room₀ room = Unit {0
 abbrev μ-loop : tie.MeasureT-loop
 μ-loop call tables strings blob asked refusal name last room₀ room = 1 + last - room
 
--- src/answers.rt:178:9
+-- src/answers.rt:213:9
 returns : tie.Need-returns Inv-loop μ-loop
 returns c = search needs
 
--- src/answers.rt:181:5
+-- src/answers.rt:216:5
 loop-holds : tie.Need-loop-holds Inv-loop μ-loop
 loop-holds c = search needs
 
--- src/answers.rt:182:13
+-- src/answers.rt:217:13
 room-agrees-requires : tie.Need-room-agrees-requires Inv-loop μ-loop
 room-agrees-requires c κs = search needs
 
--- src/answers.rt:183:13
+-- src/answers.rt:218:13
 returns-2 : tie.Need-returns-2 Inv-loop μ-loop
 returns-2 c = search needs
 
--- src/answers.rt:185:9
+-- src/answers.rt:220:9
 add-room : tie.Need-add-room Inv-loop μ-loop
 add-room c = search needs
 
--- src/answers.rt:181:5
+-- src/answers.rt:216:5
 loop-less : tie.Need-loop-less Inv-loop μ-loop
 loop-less c = search needs
 
--- src/answers.rt:181:5
+-- src/answers.rt:216:5
 loop-again : tie.Need-loop-again Inv-loop μ-loop
 loop-again c = search needs
 
--- src/answers.rt:167:1
+-- src/answers.rt:202:1
 returns-3 : tie.Need-returns-3 Inv-loop μ-loop
 returns-3 c = search needs
 
