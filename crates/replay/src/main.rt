@@ -1,13 +1,20 @@
-// Replays recorded answers of the Rust from the file `cases`, as tests/oracle/record writes them: for each case the lengths of the
-// input and of the expected text, 4 bytes each, little-endian; the input; the text. Names the first ten cases that differ, counted
-// from 0, and ends with how many agreed and how many differed.
-ghost use Prim.Native.Nat.{_≤_};
+// Replays recorded listings of the Rust from the file `cases`, as tests/oracle/record writes them: for each case the lengths of the input
+// and of the expected listing, 4 bytes each, little-endian; the input; the listing. Names the first ten cases that differ, counted from
+// 0, and ends with how many agreed and how many differed.
+use lines::Cursor;
 
 // What became of a case.
 enum Outcome {
     Agreed,
     Differed,
     NoCase,
+}
+
+// Where a listing goes on after a piece, how many bytes of the expected one are still to be read, and whether the piece was the same.
+struct Compared {
+    next: Cursor,
+    left: usize,
+    same: bool,
 }
 
 fn write(text: &[u8]) {
@@ -22,32 +29,79 @@ fn read_front(file: i32, buffer: &mut [u8], n: usize) -> bool {
     io::read_full(file, &mut buffer[..n]) == n
 }
 
-fn agrees(input: &[u8], expected: &[u8]) -> bool {
-    let mut text = [0u8; 8192];
-    let end = extents_text::write_extents(input, &mut text);
-    check::same(numbers::cut(&text, 0, end), expected)
+// Holds a piece of the listing against as many bytes of the file.
+fn compare_piece(file: i32, input: &[u8], from: Cursor, left: usize) -> Compared {
+    let mut text = io::large_buffer();
+    let piece = listing_text::fill_input(input, from, &mut text);
+    let next = piece.next;
+    let n = piece.at;
+    if left < n {
+        return Compared {
+            next,
+            left,
+            same: false,
+        };
+    }
+    let mut expected = io::large_buffer();
+    let came = read_front(file, &mut expected, n);
+    let same = came && check::same(numbers::cut(&text, 0, n), numbers::cut(&expected, 0, n));
+    Compared {
+        next,
+        left: left - n,
+        same,
+    }
 }
 
-// One case, of which the file must hold all bytes.
+fn pass_byte(file: i32) {
+    let mut space = [0u8; 1];
+    io::read_full(file, &mut space);
+}
+
+// Reads past the rest of a case.
+fn pass_over(file: i32, n: usize) {
+    let mut turns = n;
+    while 0 < turns {
+        pass_byte(file);
+        turns -= 1;
+    }
+}
+
+// Holds a whole listing against the file.
+fn compare_listing(file: i32, input: &[u8], expected: usize) -> Outcome {
+    let mut cursor = listing_text::first_cursor();
+    let mut left = expected;
+    let mut turns: u64 = 0xFFFF_FFFF_FFFF_FFFF;
+    while 0 < turns {
+        let compared = compare_piece(file, input, cursor, left);
+        cursor = compared.next;
+        left = compared.left;
+        if !compared.same {
+            break;
+        }
+        if listing_text::is_done(cursor) {
+            if left == 0 {
+                return Outcome::Agreed;
+            }
+            break;
+        }
+        turns -= 1;
+    }
+    pass_over(file, left);
+    Outcome::Differed
+}
+
 fn replay_case(file: i32) -> Outcome {
     let mut lengths = [0u8; 8];
     if !read_front(file, &mut lengths, 8) {
         return Outcome::NoCase;
     }
     let n = numbers::read_word(&lengths, 0, 4) as usize;
-    let m = numbers::read_word(&lengths, 4, 4) as usize;
+    let expected = numbers::read_word(&lengths, 4, 4) as usize;
     let mut input = [0u8; 65537];
     if !read_front(file, &mut input, n) {
         return Outcome::NoCase;
     }
-    let mut expected = io::large_buffer();
-    if !read_front(file, &mut expected, m) {
-        return Outcome::NoCase;
-    }
-    if agrees(numbers::cut(&input, 0, n), numbers::cut(&expected, 0, m)) {
-        return Outcome::Agreed;
-    }
-    Outcome::Differed
+    compare_listing(file, numbers::cut(&input, 0, n), expected)
 }
 
 fn write_differs(case: u64) {

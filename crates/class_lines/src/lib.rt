@@ -1,0 +1,174 @@
+// The lines that stand for a whole class, one function to a place of the cursor: where the walk was left, how many classes there are,
+// and of each class its name, flags, generic parameters and base types.
+use buffers::Reply;
+use classes::ClassNumber;
+use header::Options;
+use lines::Place;
+use lines::Step;
+use lines::cursor_at;
+use lines::next_number;
+ghost use Prim.Native.Nat.{ℕ};
+ghost use Rattle.buffers.specs.Replies.{replySays};
+ghost use Rattle.record.specs.View.{view};
+ghost use Rattle.lines.specs.Cursors.{cursor, stopLine, afterStop, Went, Stepped};
+ghost use Rattle.lines.specs.declared.Place.the-variants.{Stop, Classes, Class, Flags, Generic, Base};
+
+// A longer name is not shown, but `!`.
+const LONGEST: usize = 4096;
+
+// Where the walk was left; a refusal ends the listing.
+fn stop_step(out: &mut [u8], at: usize, reply: Reply) -> Step
+    ensures { λ r. ⌜ Went (stopLine (replySays reply)) (afterStop (replySays reply)) (now (out .entry)) at (now (out .exit)) r ⌝ }
+{
+    match reply {
+        Reply::Is(stop) => {
+            let end = lines::push_number(out, at, b"stop=", stop);
+            Step {
+                next: cursor_at(Place::Classes, 0, 0, 0),
+                at: end,
+            }
+        }
+        Reply::No(why) => lines::push_refused(out, at, why),
+    }
+}
+
+// The first line.
+pub fn stop_line(
+    tables: &[u8],
+    strings: &[u8],
+    blob: &[u8],
+    options: Options,
+    out: &mut [u8],
+    at: usize,
+) -> Step
+    ensures { λ r. ⌜ ((c m i : ℕ) → Stepped (view options (now (tables .entry)) (now (strings .entry)) (now (blob .entry))) (cursor Stop c m i) (now (out .entry)) at (now (out .exit)) r) ⌝ }
+{
+    let walk = dotnet::walk_with(tables, options);
+    let answer = walk.answer;
+    stop_step(out, at, answer)
+}
+
+// How many classes there are.
+pub fn classes_line(
+    tables: &[u8],
+    strings: &[u8],
+    blob: &[u8],
+    options: Options,
+    out: &mut [u8],
+    at: usize,
+) -> Step
+    ensures { λ r. ⌜ ((c m i : ℕ) → Stepped (view options (now (tables .entry)) (now (strings .entry)) (now (blob .entry))) (cursor Classes c m i) (now (out .entry)) at (now (out .exit)) r) ⌝ }
+{
+    let reply = dotnet::class_count(tables, strings, blob, options);
+    lines::number_step(
+        out,
+        at,
+        b"classes=",
+        reply,
+        cursor_at(Place::Class, 0, 0, 0),
+    )
+}
+
+// The full name of a class.
+pub fn class_line(
+    tables: &[u8],
+    strings: &[u8],
+    blob: &[u8],
+    options: Options,
+    class: u32,
+    out: &mut [u8],
+    at: usize,
+) -> Step
+    ensures { λ r. ⌜ ((m i : ℕ) → Stepped (view options (now (tables .entry)) (now (strings .entry)) (now (blob .entry))) (cursor Class class m i) (now (out .entry)) at (now (out .exit)) r) ⌝ }
+{
+    let mut name = [0u8; LONGEST];
+    let reply = dotnet::class_name(
+        tables,
+        strings,
+        blob,
+        options,
+        ClassNumber(class),
+        &mut name,
+    );
+    let more = cursor_at(Place::Flags, class, 0, 0);
+    let past = cursor_at(Place::Done, 0, 0, 0);
+    lines::name_step(out, at, b"class=", reply, &name, more, past)
+}
+
+// The flags of a class.
+pub fn flags_line(
+    tables: &[u8],
+    strings: &[u8],
+    blob: &[u8],
+    options: Options,
+    class: u32,
+    out: &mut [u8],
+    at: usize,
+) -> Step
+    ensures { λ r. ⌜ ((m i : ℕ) → Stepped (view options (now (tables .entry)) (now (strings .entry)) (now (blob .entry))) (cursor Flags class m i) (now (out .entry)) at (now (out .exit)) r) ⌝ }
+{
+    let reply = dotnet::class_flags(tables, strings, blob, options, ClassNumber(class));
+    lines::number_step(
+        out,
+        at,
+        b"flags=",
+        reply,
+        cursor_at(Place::Generic, class, 0, 0),
+    )
+}
+
+// A generic parameter of a class.
+pub fn generic_line(
+    tables: &[u8],
+    strings: &[u8],
+    blob: &[u8],
+    options: Options,
+    class: u32,
+    i: u32,
+    out: &mut [u8],
+    at: usize,
+) -> Step
+    ensures { λ r. ⌜ ((m : ℕ) → Stepped (view options (now (tables .entry)) (now (strings .entry)) (now (blob .entry))) (cursor Generic class m i) (now (out .entry)) at (now (out .exit)) r) ⌝ }
+{
+    let mut name = [0u8; LONGEST];
+    let reply = dotnet::generic_name(
+        tables,
+        strings,
+        blob,
+        options,
+        ClassNumber(class),
+        i,
+        &mut name,
+    );
+    let more = cursor_at(Place::Generic, class, 0, next_number(i));
+    let past = cursor_at(Place::Base, class, 0, 0);
+    lines::name_step(out, at, b"generic=", reply, &name, more, past)
+}
+
+// A base type of a class.
+pub fn base_line(
+    tables: &[u8],
+    strings: &[u8],
+    blob: &[u8],
+    options: Options,
+    class: u32,
+    i: u32,
+    out: &mut [u8],
+    at: usize,
+) -> Step
+    ensures { λ r. ⌜ ((m : ℕ) → Stepped (view options (now (tables .entry)) (now (strings .entry)) (now (blob .entry))) (cursor Base class m i) (now (out .entry)) at (now (out .exit)) r) ⌝ }
+{
+    let mut name = [0u8; LONGEST];
+    let reply = dotnet::base_name(
+        tables,
+        strings,
+        blob,
+        options,
+        ClassNumber(class),
+        i,
+        &mut name,
+    );
+    let more = cursor_at(Place::Base, class, 0, next_number(i));
+    let past = cursor_at(Place::Method, class, 0, 0);
+    lines::name_step(out, at, b"base=", reply, &name, more, past)
+}

@@ -1,0 +1,90 @@
+-- The listing line by line: where it is, the line there, and where it goes on. A cursor has a place, which says what the next line is
+-- about, the class and the method that it is in, and the number of the item (generic parameter, base type, parameter) in these, all from
+-- 0. No count is asked for: items are asked for in order until there is none.
+use mathlib.Core.Path.{_≡_}
+use mathlib.Core.Bool.{cond}
+use mathlib.Core.List.{List, [], _++_}
+use Prim.Native.Nat.{ℕ, _+_, min}
+use Rattle.buffers.specs.Texts.{Text, q}
+use Rattle.buffers.specs.Writes.{Wrote}
+use Rattle.buffers.specs.Replies.{Answer, refused, value}
+use Rattle.record.specs.View.{View}
+use Rattle.record.specs.Answers.{walkAnswer, classCount, classFlags, className, genericName, baseName, methodName, methodFlags, methodGenericName, returnType, parameterType, parameterName}
+use Rattle.lines.specs.Lines.{numberLine, refusedLine, answerLine, nameLine, hasLine}
+use Rattle.lines.specs.declared.Place.{Place}
+use Rattle.lines.specs.declared.Place.the-variants.{Stop, Classes, Class, Flags, Generic, Base, Method, MethodFlags, MethodGeneric, Returns, ParamType, ParamName, Done}
+use Rattle.lines.specs.declared.Cursor.{Cursor}
+use Rattle.lines.specs.declared.Step.{Step}
+
+abbrev pub cursor : Place → ℕ → ℕ → ℕ → Cursor
+cursor place class method i = record { place = place; class = class; method = method; i = i }
+
+abbrev pub first : Cursor
+first = cursor Stop 0 0 0
+
+abbrev pub done : Cursor
+done = cursor Done 0 0 0
+
+-- The number after n. A cursor can hold any 32 bits, and stays at the last number: no record has so many of anything.
+abbrev pub nextNumber : ℕ → ℕ
+nextNumber n = min (n + 1) 0xFFFF_FFFF
+
+-- The first line: where the walk was left, or why the streams are refused; and where it goes on.
+abbrev pub stopLine : Answer ℕ → Text
+stopLine (value stop) = numberLine (q "stop=") stop
+stopLine (refused n) = refusedLine n
+
+abbrev pub afterStop : Answer ℕ → Cursor
+afterStop (value stop) = cursor Classes 0 0 0
+afterStop (refused n) = done
+
+-- The line at a place of class c, method m and item i.
+abbrev pub placeLine : View → Place → ℕ → ℕ → ℕ → Text
+placeLine v Stop c m i = stopLine (walkAnswer v .stop)
+placeLine v Classes c m i = answerLine (q "classes=") (classCount v)
+placeLine v Class c m i = nameLine (q "class=") (className v c)
+placeLine v Flags c m i = answerLine (q "flags=") (classFlags v c)
+placeLine v Generic c m i = nameLine (q "generic=") (genericName v c i)
+placeLine v Base c m i = nameLine (q "base=") (baseName v c i)
+placeLine v Method c m i = nameLine (q "method=") (methodName v c m)
+placeLine v MethodFlags c m i = answerLine (q "mflags=") (methodFlags v c m)
+placeLine v MethodGeneric c m i = nameLine (q "mgeneric=") (methodGenericName v c m i)
+placeLine v Returns c m i = nameLine (q "returns=") (returnType v c m)
+placeLine v ParamType c m i = nameLine (q "ptype=") (parameterType v c m i)
+placeLine v ParamName c m i = nameLine (q "pname=") (parameterName v c m i)
+placeLine v Done c m i = []
+
+-- Where it goes on.
+abbrev pub placeNext : View → Place → ℕ → ℕ → ℕ → Cursor
+placeNext v Stop c m i = afterStop (walkAnswer v .stop)
+placeNext v Classes c m i = cursor Class 0 0 0
+placeNext v Class c m i = cond (hasLine (className v c)) (cursor Flags c 0 0) done
+placeNext v Flags c m i = cursor Generic c 0 0
+placeNext v Generic c m i = cond (hasLine (genericName v c i)) (cursor Generic c 0 (nextNumber i)) (cursor Base c 0 0)
+placeNext v Base c m i = cond (hasLine (baseName v c i)) (cursor Base c 0 (nextNumber i)) (cursor Method c 0 0)
+placeNext v Method c m i = cond (hasLine (methodName v c m)) (cursor MethodFlags c m 0) (cursor Class (nextNumber c) 0 0)
+placeNext v MethodFlags c m i = cursor MethodGeneric c m 0
+placeNext v MethodGeneric c m i = cond (hasLine (methodGenericName v c m i)) (cursor MethodGeneric c m (nextNumber i)) (cursor Returns c m 0)
+placeNext v Returns c m i = cursor ParamType c m 0
+placeNext v ParamType c m i = cond (hasLine (parameterType v c m i)) (cursor ParamName c m i) (cursor Method c (nextNumber m) 0)
+placeNext v ParamName c m i = cursor ParamType c m (nextNumber i)
+placeNext v Done c m i = done
+
+unfoldable pub lineAt : View → Cursor → Text
+lineAt v c = placeLine v (c .place) (c .class) (c .method) (c .i)
+
+unfoldable pub nextAt : View → Cursor → Cursor
+nextAt v c = placeNext v (c .place) (c .class) (c .method) (c .i)
+
+-- What a step does with a lent buffer: a line is appended, and the next cursor handed out.
+pub record Went (t : Text) (to : Cursor) (before : List ℕ) (at : ℕ) (after : List ℕ) (s : Step) : Type 0 where
+  pub wrote : Wrote before at t after (s .at)
+  pub goes : s .next ≡ to
+
+abbrev pub Stepped : View → Cursor → List ℕ → ℕ → List ℕ → Step → Type 0
+Stepped v c = Went (lineAt v c) (nextAt v c)
+
+-- The steps from one cursor to another, and the text of their lines.
+pub data Steps (v : View) : Cursor → Text → Cursor → Type 0 where
+  here : {c : Cursor} → Steps v c [] c
+  onward : {c d : Cursor} {t : Text} → Steps v (nextAt v c) t d → Steps v c (lineAt v c ++ t) d

@@ -1,0 +1,52 @@
+-- The lines of the listing (document 01, "The listing program"): a key, a value, and the byte 0x0A.
+use mathlib.Core.Bool.{Bool, true, cond, _||_}
+use mathlib.Core.List.{[], _∷_, _++_}
+use mathlib.Core.Option.{Option, none, some}
+use Prim.Native.Nat.{ℕ}
+use lib.Dec.{eqb, leb}
+use lib.ListN.{length}
+use Rattle.buffers.specs.Texts.{Text, q, decimal}
+use Rattle.buffers.specs.Replies.{number, Answer, refused, value}
+use Rattle.buffers.specs.declared.Refusal.the-variants.{NoName, BufferTooSmall}
+
+unfoldable pub line : Text → Text → Text
+line key t = key ++ (t ++ (0x0A ∷ []))
+
+-- A number in decimal.
+abbrev pub numberLine : Text → ℕ → Text
+numberLine key n = line key (decimal n)
+
+-- A name as it stands; `!` where it is longer than 4,096 bytes.
+abbrev pub longest : ℕ
+longest = 4096
+
+unfoldable pub shown : Text → Text
+shown t = cond (leb (length t) longest) t (q "!")
+
+-- A name that may be missing: then the key alone.
+abbrev pub valueLine : Text → Option Text → Text
+valueLine key none = line key []
+valueLine key (some t) = line key (shown t)
+
+-- A refusal is the only line.
+abbrev pub refusedLine : ℕ → Text
+refusedLine n = numberLine (q "refused=") n
+
+-- The line of a number by its answer: none where there is no such number.
+abbrev pub answerLine : Text → Answer ℕ → Text
+answerLine key (value n) = numberLine key n
+answerLine key (refused n) = []
+
+-- The line of a name by its answer. 5 says that the name is missing, and 6 that it is too long. Any other number says that there is no
+-- such row, and so no line.
+unfoldable pub missingLine : Text → ℕ → Text
+missingLine key n = cond (eqb n (number NoName)) (line key []) (cond (eqb n (number BufferTooSmall)) (line key (q "!")) [])
+
+abbrev pub nameLine : Text → Answer Text → Text
+nameLine key (value t) = line key (shown t)
+nameLine key (refused n) = missingLine key n
+
+-- Whether a name's answer has a line.
+abbrev pub hasLine : {A : Type 0} → Answer A → Bool
+hasLine (value a) = true
+hasLine (refused n) = eqb n (number NoName) || eqb n (number BufferTooSmall)

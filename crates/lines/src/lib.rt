@@ -1,0 +1,195 @@
+// The lines of the listing, appended to a lent buffer, and the cursor that goes from line to line (document 01, "The listing program").
+use buffers::Refusal;
+use buffers::Reply;
+use buffers::push;
+use buffers::push_decimal;
+use buffers::put;
+use buffers::refusal_number;
+ghost use mathlib.Core.Path.{_≡_};
+ghost use mathlib.Core.Bool.{cond};
+ghost use mathlib.Core.List.{List, []};
+ghost use Prim.Native.Nat.{ℕ};
+ghost use lib.ListN.{length};
+ghost use Rattle.buffers.specs.Texts.{Text};
+ghost use Rattle.buffers.specs.Writes.{Wrote};
+ghost use Rattle.buffers.specs.Replies.{number, Answer, Named, replySays};
+ghost use Rattle.lines.specs.Lines.{line, longest, numberLine, refusedLine, answerLine, missingLine, nameLine, hasLine};
+ghost use Rattle.lines.specs.Cursors.{cursor, done, nextNumber, Went};
+
+// What ends a line.
+const LINE_END: u8 = b'\n';
+
+// What the next line is about.
+pub enum Place {
+    Stop,
+    Classes,
+    Class,
+    Flags,
+    Generic,
+    Base,
+    Method,
+    MethodFlags,
+    MethodGeneric,
+    Returns,
+    ParamType,
+    ParamName,
+    Done,
+}
+
+// Where the listing is: the class, the method and the item that the place is about, from 0.
+pub struct Cursor {
+    pub place: Place,
+    pub class: u32,
+    pub method: u32,
+    pub i: u32,
+}
+
+// The next cursor, and the place in the buffer after the line.
+pub struct Step {
+    pub next: Cursor,
+    pub at: usize,
+}
+
+pub fn cursor_at(place: Place, class: u32, method: u32, i: u32) -> Cursor
+    ensures { λ r. ⌜ r ≡ cursor place class method i ⌝ }
+{
+    Cursor {
+        place,
+        class,
+        method,
+        i,
+    }
+}
+
+pub fn next_number(n: u32) -> u32
+    ensures { λ r. ⌜ r ≡ nextNumber n ⌝ }
+{
+    if n < 0xFFFF_FFFF {
+        return n + 1;
+    }
+    n
+}
+
+// No line.
+pub fn push_nothing(out: &mut [u8], at: usize) -> usize
+    ensures { λ r. ⌜ Wrote (now (out .entry)) at [] (now (out .exit)) r ⌝ }
+{
+    if out.len() < at {
+        return out.len() + 1;
+    }
+    at
+}
+
+// A key and a value.
+fn push_line(out: &mut [u8], at: usize, key: &[u8], value: &[u8]) -> usize
+    ensures { λ r. ⌜ Wrote (now (out .entry)) at (line (now (key .entry)) (now (value .entry))) (now (out .exit)) r ⌝ }
+{
+    let start = push(out, at, key);
+    let end = push(out, start, value);
+    put(out, end, LINE_END)
+}
+
+// A key alone.
+fn push_key(out: &mut [u8], at: usize, key: &[u8]) -> usize
+    ensures { λ r. ⌜ Wrote (now (out .entry)) at (line (now (key .entry)) []) (now (out .exit)) r ⌝ }
+{
+    let end = push(out, at, key);
+    put(out, end, LINE_END)
+}
+
+// A key and a number.
+pub fn push_number(out: &mut [u8], at: usize, key: &[u8], n: usize) -> usize
+    ensures { λ r. ⌜ Wrote (now (out .entry)) at (numberLine (now (key .entry)) n) (now (out .exit)) r ⌝ }
+{
+    let start = push(out, at, key);
+    let end = push_decimal(out, start, n);
+    put(out, end, LINE_END)
+}
+
+// The line of a name that was refused, by the refusal's number.
+fn push_missing(out: &mut [u8], at: usize, key: &[u8], n: u8) -> usize
+    ensures { λ r. ⌜ Wrote (now (out .entry)) at (missingLine (now (key .entry)) n) (now (out .exit)) r ⌝ }
+{
+    if n == 5 {
+        return push_key(out, at, key);
+    }
+    if n == 6 {
+        return push_line(out, at, key, b"!");
+    }
+    push_nothing(out, at)
+}
+
+// The line of a name that a call with a buffer of 4,096 bytes was asked for, by the call's reply and the buffer after it.
+pub fn push_name(out: &mut [u8], at: usize, key: &[u8], reply: Reply, name: &[u8]) -> usize
+    ensures { λ r. ⌜ ((a : Answer Text) (b : List ℕ) → length b ≡ longest → Named a b reply (now (name .entry)) → Wrote (now (out .entry)) at (nameLine (now (key .entry)) a) (now (out .exit)) r) ⌝ }
+{
+    match reply {
+        Reply::Is(n) => push_line(out, at, key, numbers::cut(name, 0, n)),
+        Reply::No(why) => push_missing(out, at, key, refusal_number(why)),
+    }
+}
+
+// Whether a reply for a name has a line.
+fn has_line(reply: Reply) -> bool
+    ensures { λ r. ⌜ r ≡ hasLine (replySays reply) ⌝ }
+{
+    match reply {
+        Reply::Is(_) => true,
+        Reply::No(why) => {
+            let n = refusal_number(why);
+            n == 5 || n == 6
+        }
+    }
+}
+
+// The same, and where it goes on: to one cursor if there is a line, else to the other.
+pub fn name_step(
+    out: &mut [u8],
+    at: usize,
+    key: &[u8],
+    reply: Reply,
+    name: &[u8],
+    more: Cursor,
+    past: Cursor,
+) -> Step
+    ensures { λ r. ⌜ ((a : Answer Text) (b : List ℕ) → length b ≡ longest → Named a b reply (now (name .entry)) → Went (nameLine (now (key .entry)) a) (cond (hasLine a) more past) (now (out .entry)) at (now (out .exit)) r) ⌝ }
+{
+    let end = push_name(out, at, key, reply, name);
+    if has_line(reply) {
+        return Step {
+            next: more,
+            at: end,
+        };
+    }
+    Step {
+        next: past,
+        at: end,
+    }
+}
+
+// The line of a number by a call's reply, and where it goes on.
+pub fn number_step(out: &mut [u8], at: usize, key: &[u8], reply: Reply, next: Cursor) -> Step
+    ensures { λ r. ⌜ Went (answerLine (now (key .entry)) (replySays reply)) next (now (out .entry)) at (now (out .exit)) r ⌝ }
+{
+    match reply {
+        Reply::Is(n) => {
+            let end = push_number(out, at, key, n);
+            Step { next, at: end }
+        }
+        Reply::No(_) => {
+            let end = push_nothing(out, at);
+            Step { next, at: end }
+        }
+    }
+}
+
+// A refusal, which ends the listing.
+pub fn push_refused(out: &mut [u8], at: usize, why: Refusal) -> Step
+    ensures { λ r. ⌜ Went (refusedLine (number why)) done (now (out .entry)) at (now (out .exit)) r ⌝ }
+{
+    let end = push_number(out, at, b"refused=", refusal_number(why) as usize);
+    Step {
+        next: cursor_at(Place::Done, 0, 0, 0),
+        at: end,
+    }
+}

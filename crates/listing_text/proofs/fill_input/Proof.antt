@@ -1,0 +1,92 @@
+use mathlib.Core.Path.{sym, _∙_}
+use Rattle.numbers.proofs.Parts.{cut-is}
+use Rattle.bundle.proofs.Input.{streams-within}
+use Rattle.listing_text.proofs.Filling.{input-malformed, input-streams}
+use borrow.Author.Needs.{needs}
+use Rattle.listing_text.proofs.fill_input.Statement.{statement}
+use Rattle.listing_text.proofs.fill_input.Tie as tie
+use Rattle.listing_text.proofs.fill_input.Reads as reads
+use Rattle.listing_text.proofs.fill_input.Lts as lts
+use Rattle.bundle.proofs.open_bundle.Reads as open-bundle-reads
+use Rattle.header.proofs.base_options.Reads as base-options-reads
+use Rattle.lines.proofs.push_refused.Reads as push-refused-reads
+use Rattle.listing_text.proofs.fill.Reads as fill-reads
+use Rattle.numbers.proofs.cut.Reads as cut-reads
+
+-- src/lib.rt:129:11
+open-bundle-requires : tie.Need-open-bundle-requires
+open-bundle-requires c κs = search needs
+
+-- src/lib.rt:130:25
+enum-known-t : tie.Need-enum-known-t
+enum-known-t c = search needs
+
+-- src/lib.rt:131:17
+cut-requires : tie.Need-cut-requires
+cut-requires c κs = search needs
+
+-- src/lib.rt:132:17
+cut-requires-2 : tie.Need-cut-requires-2
+cut-requires-2 c κs = search needs
+
+-- src/lib.rt:133:17
+cut-requires-3 : tie.Need-cut-requires-3
+cut-requires-3 c κs = search needs
+
+-- src/lib.rt:134:41
+base-options-requires : tie.Need-base-options-requires
+base-options-requires c κs = search needs
+
+-- src/lib.rt:134:13
+fill-requires : tie.Need-fill-requires
+fill-requires c κs = search needs
+
+-- src/lib.rt:136:50
+enum-told : tie.Need-enum-told
+enum-told c = search needs
+
+-- src/lib.rt:136:30
+push-refused-requires : tie.Need-push-refused-requires
+push-refused-requires c κs = search needs
+
+-- src/lib.rt:126:1
+same-length : tie.Need-same-length
+same-length c = search needs
+
+-- src/lib.rt:126:1
+returns : tie.Need-returns
+returns c =
+    let is = sym (c .before .before .before .before .before .before .before .before .before .t .given .1) ∙ c .before .before .before .before .before .before .before .before .before .before .before .open-bundle .ensures in
+    let in-input = streams-within _ is in
+    input-streams _ _ _ is
+    (cut-is _ _ _ _ (in-input .0) (c .before .before .before .before .before .before .before .cut .ensures) .bytes)
+    (cut-is _ _ _ _ (in-input .1) (c .before .before .before .before .before .before .cut2 .ensures) .bytes)
+    (cut-is _ _ _ _ (in-input .2) (c .before .before .before .before .before .cut3 .ensures) .bytes)
+    (c .before .before .before .before .base-options .ensures)
+    (c .before .before .fill .ensures)
+
+-- src/lib.rt:126:1
+same-length-2 : tie.Need-same-length-2
+same-length-2 c = search needs
+
+-- src/lib.rt:126:1
+returns-2 : tie.Need-returns-2
+returns-2 c = input-malformed _ _ _ (sym (c .before .before .before .before .enum-told .given .1) ∙ c .before .before .before .before .before .before .open-bundle .ensures) (c .before .before .push-refused .ensures)
+
+pub fill-input-spec : {M : Type 1} → statement M
+fill-input-spec =
+    tie.close
+    (tie.spec
+    open-bundle-requires
+    enum-known-t
+    cut-requires
+    cut-requires-2
+    cut-requires-3
+    base-options-requires
+    fill-requires
+    enum-told
+    push-refused-requires
+    same-length
+    returns
+    same-length-2
+    returns-2)

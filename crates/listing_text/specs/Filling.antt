@@ -1,0 +1,67 @@
+-- Pieces of the listing: as many whole lines as a lent buffer holds, from a cursor on.
+use mathlib.Core.Path.{_≡_}
+use mathlib.Core.Bool.{Bool, true, false, cond}
+use mathlib.Core.List.{List, [], _++_}
+use Prim.Native.Nat.{ℕ, zero, suc, _+_}
+use lib.Dec.{leb}
+use lib.ListN.{length}
+use Rattle.buffers.specs.Texts.{Text}
+use Rattle.buffers.specs.Writes.{Wrote}
+use Rattle.buffers.specs.Replies.{Answer, refused, value}
+use Rattle.bundle.specs.Input.{Inputs, bundleOf, bundleSays}
+use Rattle.header.specs.Opening.{base}
+use Rattle.record.specs.View.{View, view}
+use Rattle.lines.specs.Lines.{refusedLine}
+use Rattle.lines.specs.Cursors.{done, lineAt, nextAt}
+use Rattle.lines.specs.declared.Place.{Place}
+use Rattle.lines.specs.declared.Place.the-variants.{Stop, Classes, Class, Flags, Generic, Base, Method, MethodFlags, MethodGeneric, Returns, ParamType, ParamName, Done}
+use Rattle.lines.specs.declared.Cursor.{Cursor}
+use Rattle.lines.specs.declared.Step.{Step}
+
+abbrev pub isDone : Place → Bool
+isDone Stop = false
+isDone Classes = false
+isDone Class = false
+isDone Flags = false
+isDone Generic = false
+isDone Base = false
+isDone Method = false
+isDone MethodFlags = false
+isDone MethodGeneric = false
+isDone Returns = false
+isDone ParamType = false
+isDone ParamName = false
+isDone Done = true
+
+-- A text, and where the listing goes on after it.
+pub record Piece : Type 0 where
+  pub text : Text
+  pub next : Cursor
+
+-- The text so far and the lines from a cursor on, in so many steps, until the listing is done or a line does not fit into the room.
+unfoldable pub pieceFrom : View → ℕ → ℕ → Text → Cursor → Piece
+pieceFrom v room zero t c = record { text = t; next = c }
+pieceFrom v room (suc steps) t c =
+    let more = t ++ lineAt v c in
+    cond (isDone (c .place)) (record { text = t; next = c })
+    (cond (leb (length more) room) (pieceFrom v room steps more (nextAt v c)) (record { text = t; next = c }))
+
+-- A piece takes at most this many steps, some of which add no line.
+abbrev pub mostSteps : ℕ
+mostSteps = 65_536
+
+abbrev pub pieceOf : View → ℕ → Cursor → Piece
+pieceOf v room c = pieceFrom v room mostSteps [] c
+
+-- A piece of the listing of a program's whole input: of a malformed one, the refusal.
+abbrev pub answerPiece : Answer Inputs → ℕ → Cursor → Piece
+answerPiece (value i) room c = pieceOf (view base (i .tables) (i .strings) (i .blob)) room c
+answerPiece (refused n) room c = record { text = refusedLine n; next = done }
+
+unfoldable pub inputPiece : List ℕ → ℕ → Cursor → Piece
+inputPiece s room c = answerPiece (bundleSays s (bundleOf s)) room c
+
+-- What a call for a piece does with a lent buffer: the text stands at its start, and the next cursor is handed out.
+pub record Filled (p : Piece) (before after : List ℕ) (s : Step) : Type 0 where
+  pub wrote : Wrote before 0 (p .text) after (s .at)
+  pub goes : s .next ≡ p .next

@@ -1,0 +1,134 @@
+// The listing, piece by piece, for the programs that print or compare it: a step from line to line, a buffer filled with whole lines,
+// and both over a program's input.
+use buffers::Refusal;
+use bundle::Bundle;
+use header::Options;
+use lines::Cursor;
+use lines::Place;
+use lines::Step;
+ghost use mathlib.Core.Path.{_≡_};
+ghost use mathlib.Core.List.{List};
+ghost use Prim.Native.Nat.{ℕ};
+ghost use lib.ListN.{length};
+ghost use Rattle.header.specs.declared.Options.{Options as Opts};
+ghost use Rattle.record.specs.View.{view};
+ghost use Rattle.lines.specs.Cursors.{cursor, first, Stepped};
+ghost use Rattle.lines.specs.declared.Place.the-variants.{Done};
+ghost use Rattle.listing_text.specs.Filling.{isDone, pieceOf, inputPiece, Filled};
+
+// Where a listing begins.
+pub fn first_cursor() -> Cursor
+    ensures { λ r. ⌜ r ≡ first ⌝ }
+{
+    lines::cursor_at(Place::Stop, 0, 0, 0)
+}
+
+// Whether a listing is at its end.
+pub fn is_done(c: Cursor) -> bool
+    ensures { λ r. ⌜ r ≡ isDone (c .place) ⌝ }
+{
+    let place = c.place;
+    if let Place::Done = place { true } else { false }
+}
+
+fn done_line(out: &mut [u8], at: usize) -> Step
+    ensures { λ r. ⌜ ((options : Opts) (tables strings blob : List ℕ) (c m i : ℕ) → Stepped (view options tables strings blob) (cursor Done c m i) (now (out .entry)) at (now (out .exit)) r) ⌝ }
+{
+    let end = lines::push_nothing(out, at);
+    Step {
+        next: lines::cursor_at(Place::Done, 0, 0, 0),
+        at: end,
+    }
+}
+
+// One step: the line at a cursor is appended, if it has one, and the next cursor handed out.
+pub fn next_line(
+    tables: &[u8],
+    strings: &[u8],
+    blob: &[u8],
+    options: Options,
+    c: Cursor,
+    out: &mut [u8],
+    at: usize,
+) -> Step
+    ensures { λ r. ⌜ Stepped (view options (now (tables .entry)) (now (strings .entry)) (now (blob .entry))) c (now (out .entry)) at (now (out .exit)) r ⌝ }
+{
+    let place = c.place;
+    let class = c.class;
+    let m = c.method;
+    let i = c.i;
+    match place {
+        Place::Stop => class_lines::stop_line(tables, strings, blob, options, out, at),
+        Place::Classes => class_lines::classes_line(tables, strings, blob, options, out, at),
+        Place::Class => class_lines::class_line(tables, strings, blob, options, class, out, at),
+        Place::Flags => class_lines::flags_line(tables, strings, blob, options, class, out, at),
+        Place::Generic => {
+            class_lines::generic_line(tables, strings, blob, options, class, i, out, at)
+        }
+        Place::Base => class_lines::base_line(tables, strings, blob, options, class, i, out, at),
+        Place::Method => {
+            method_lines::method_line(tables, strings, blob, options, class, m, out, at)
+        }
+        Place::MethodFlags => {
+            method_lines::method_flags_line(tables, strings, blob, options, class, m, out, at)
+        }
+        Place::MethodGeneric => {
+            method_lines::method_generic_line(tables, strings, blob, options, class, m, i, out, at)
+        }
+        Place::Returns => {
+            method_lines::returns_line(tables, strings, blob, options, class, m, out, at)
+        }
+        Place::ParamType => {
+            method_lines::param_type_line(tables, strings, blob, options, class, m, i, out, at)
+        }
+        Place::ParamName => {
+            method_lines::param_name_line(tables, strings, blob, options, class, m, i, out, at)
+        }
+        Place::Done => done_line(out, at),
+    }
+}
+
+// Steps until the listing is done or a line does not fit into the buffer.
+pub fn fill(
+    tables: &[u8],
+    strings: &[u8],
+    blob: &[u8],
+    options: Options,
+    from: Cursor,
+    out: &mut [u8],
+) -> Step
+    ensures { λ r. ⌜ Filled (pieceOf (view options (now (tables .entry)) (now (strings .entry)) (now (blob .entry))) (length (now (out .entry))) from) (now (out .entry)) (now (out .exit)) r ⌝ }
+{
+    let mut c = from;
+    let mut at = 0;
+    let mut steps: u32 = 65_536;
+    while 0 < steps {
+        if is_done(c) {
+            return Step { next: c, at };
+        }
+        let s = next_line(tables, strings, blob, options, c, out, at);
+        let end = s.at;
+        if out.len() < end {
+            return Step { next: c, at };
+        }
+        c = s.next;
+        at = end;
+        steps -= 1;
+    }
+    Step { next: c, at }
+}
+
+// The same over a program's whole input, which is opened anew for each piece.
+pub fn fill_input(input: &[u8], from: Cursor, out: &mut [u8]) -> Step
+    ensures { λ r. ⌜ Filled (inputPiece (now (input .entry)) (length (now (out .entry))) from) (now (out .entry)) (now (out .exit)) r ⌝ }
+{
+    match bundle::open_bundle(input) {
+        Bundle::Streams(t, s, b) => {
+            let tables = numbers::cut(input, t.at, t.len);
+            let strings = numbers::cut(input, s.at, s.len);
+            let blob = numbers::cut(input, b.at, b.len);
+            fill(tables, strings, blob, header::base_options(), from, out)
+        }
+        Bundle::Malformed => lines::push_refused(out, 0, Refusal::BadInput),
+    }
+}

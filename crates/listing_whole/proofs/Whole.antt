@@ -1,0 +1,282 @@
+-- The proof that the listing line by line is the listing. Assumes nothing.
+use mathlib.Core.Path.{_≡_, refl, sym, _∙_, ap, subst}
+use mathlib.Core.Bool.{Bool, true, cond}
+use mathlib.Core.List.{List, [], _∷_, _++_, append-assoc, append-nil}
+use mathlib.Core.Option.{Option, none, some}
+use Prim.Native.Nat.{ℕ, zero, suc, _+_, _<_, _≤_}
+use native.Mathlib.Omega.{arith}
+use lib.ListN.{length, getElem?}
+use Rattle.buffers.specs.Texts.{Text, q}
+use Rattle.buffers.specs.Replies.{number, Answer, refused, value, nameOr5}
+use Rattle.buffers.specs.declared.Refusal.{Refusal}
+use Rattle.buffers.specs.declared.Refusal.the-variants.{NoSuchRow}
+use Rattle.header.specs.declared.Opened.{Opened}
+use Rattle.header.specs.declared.Opened.the-variants.{Refused, Ready}
+use Rattle.tables.specs.Extents.{walkReply}
+use Rattle.record.specs.View.{View}
+use Rattle.record.specs.Record.{Parameter, Method, Class, classRecord}
+use Rattle.record.specs.Answers.{walkAnswer, theClasses, theClass, theMethod, classCount, classFlags, className, genericName, baseName, methodName, methodFlags, methodGenericName, returnType, parameterType, parameterName}
+use Rattle.lines.specs.Lines.{valueLine, missingLine, refusedLine, answerLine, nameLine, hasLine}
+use Rattle.lines.specs.Listing.{each, parameterLines, methodLines, classLines, recordLines, listing}
+use Rattle.lines.specs.Cursors.{cursor, first, done, nextNumber, stopLine, afterStop, lineAt, nextAt, Steps, here, onward}
+use Rattle.lines.specs.declared.Place.the-variants.{Class as AtClass, Generic, Base, Method as AtMethod, MethodGeneric, ParamType}
+use Rattle.lines.specs.declared.Cursor.{Cursor}
+
+-- A cursor has 32 bits for a number, so nothing that is counted may have more items than that. (Few.antt shows that nothing has.)
+abbrev pub Few : {A : Type 0} → List A → Type 0
+Few l = length l ≤ 0xFFFF_FFFF
+
+pub record FewInMethod (m : Method) : Type 0 where
+  pub generics : Few (m .generics)
+  pub parameters : Few (m .parameters)
+
+pub record FewInClass (c : Class) : Type 0 where
+  pub generics : Few (c .generics)
+  pub bases : Few (c .bases)
+  pub methods : Few (c .methods)
+  pub each : (i : ℕ) (m : Method) → getElem? (c .methods) i ≡ some m → FewInMethod m
+
+pub record FewIn (v : View) : Type 0 where
+  pub classes : Few (classRecord v)
+  pub each : (i : ℕ) (c : Class) → getElem? (classRecord v) i ≡ some c → FewInClass c
+
+-- Steps one after the other, and one more step in front.
+module _ {v : View} where
+  pub then : {a b c : Cursor} {t u : Text} → Steps v a t b → Steps v b u c → Steps v a (t ++ u) c
+  then here r = r
+  then {c = e} {u = u} (onward {c} {d} {t} s) r =
+      subst (λ (x : Text). Steps v c x e) (sym (append-assoc (lineAt v c) t u)) (onward (then s r))
+
+  after : {c d e : Cursor} {t u : Text} → lineAt v c ≡ t → nextAt v c ≡ d → Steps v d u e → Steps v c (t ++ u) e
+  after {c} {d} {e} {t} {u} l n s = subst (λ (x : Text). Steps v c (x ++ u) e) l (onward (subst (λ (x : Cursor). Steps v x u e) (sym n) s))
+
+  single : {c d : Cursor} {t : Text} → lineAt v c ≡ t → nextAt v c ≡ d → Steps v c t d
+  single {c} {d} {t} l n = subst (λ (x : Text). Steps v c x d) (append-nil t) (after l n here)
+
+  -- The items of a list, by the steps of each.
+  items : {A : Type 0} (f : A → Text) (at : ℕ → Cursor) {end : Cursor} (l : List A)
+      → ((i : ℕ) (a : A) → getElem? l i ≡ some a → Steps v (at i) (f a) (at (suc i))) → Steps v (at (length l)) [] end
+      → Steps v (at 0) (each f l) end
+  unfolding each
+  items f at [] one past = past
+  items f at (a ∷ l) one past = then (one 0 a refl) (items f (λ i. at (suc i)) l (λ i b e. one (suc i) b e) past)
+
+-- An item of a list has a number below the list's length, and past the end there is none.
+pub item-below : {A : Type 0} (l : List A) (i : ℕ) {a : A} → getElem? l i ≡ some a → i < length l
+item-below [] i e = let z : _≡_ {A = ℕ} 0 1 = cc in absurd (omega arith)
+item-below (a ∷ l) zero e = omega arith
+item-below (a ∷ l) (suc i) e = omega (arith, item-below l i e)
+
+item-end : {A : Type 0} (l : List A) → getElem? l (length l) ≡ none
+item-end [] = refl
+item-end (a ∷ l) = item-end l
+
+next-few : {A : Type 0} (l : List A) (i : ℕ) {a : A} → Few l → getElem? l i ≡ some a → nextNumber i ≡ suc i
+next-few l i f e = omega (arith, item-below l i e)
+
+-- A name by its answer: its line, and that the listing goes on after it; and that past the last row it goes elsewhere.
+name-line : (key : Text) (o : Option Text) → nameLine key (nameOr5 o) ≡ valueLine key o
+unfolding missingLine
+name-line key none = refl
+name-line key (some t) = refl
+
+name-has : (o : Option Text) → hasLine (nameOr5 o) ≡ true
+name-has none = refl
+name-has (some t) = refl
+
+module _ (o : Option Text) {a : Answer Text} (e : a ≡ nameOr5 o) where
+  told : (key : Text) → nameLine key a ≡ valueLine key o
+  told key = ap (nameLine key) e ∙ name-line key o
+
+  goes : (x y : Cursor) → cond (hasLine a) x y ≡ x
+  goes x y = ap (λ (b : Bool). cond b x y) (ap hasLine e ∙ name-has o)
+
+module _ {a : Answer Text} (e : a ≡ refused (number NoSuchRow)) where
+  untold : (key : Text) → nameLine key a ≡ []
+  unfolding missingLine
+  untold key = ap (nameLine key) e
+
+  leaves : (x y : Cursor) → cond (hasLine a) x y ≡ y
+  leaves x y = ap (λ (b : Bool). cond b x y) (ap hasLine e)
+
+-- A method's lines.
+module _ (v : View) (c m : ℕ) (k : Method) (is : theMethod v c m ≡ value k) where
+  generic-at : (i : ℕ) {o : Option Text} → getElem? (k .generics) i ≡ some o → methodGenericName v c m i ≡ nameOr5 o
+  unfolding methodGenericName
+  generic-at i e = rw (is, e)
+
+  generic-past : methodGenericName v c m (length (k .generics)) ≡ refused (number NoSuchRow)
+  unfolding methodGenericName
+  generic-past = rw (is, item-end (k .generics))
+
+  type-at : (i : ℕ) {p : Parameter} → getElem? (k .parameters) i ≡ some p → parameterType v c m i ≡ nameOr5 (p .type)
+  unfolding parameterType
+  type-at i e = rw (is, e)
+
+  name-at : (i : ℕ) {p : Parameter} → getElem? (k .parameters) i ≡ some p → parameterName v c m i ≡ nameOr5 (p .name)
+  unfolding parameterName
+  name-at i e = rw (is, e)
+
+  type-past : parameterType v c m (length (k .parameters)) ≡ refused (number NoSuchRow)
+  unfolding parameterType
+  type-past = rw (is, item-end (k .parameters))
+
+  method-name : methodName v c m ≡ nameOr5 (k .name)
+  unfolding methodName
+  method-name = rw is
+
+  method-flags : methodFlags v c m ≡ value (k .flags)
+  unfolding methodFlags
+  method-flags = rw is
+
+  return-type : returnType v c m ≡ nameOr5 (k .returns)
+  unfolding returnType
+  return-type = rw is
+
+  module _ (few : FewInMethod k) where
+    generic-step : (i : ℕ) (o : Option Text) → getElem? (k .generics) i ≡ some o
+        → Steps v (cursor MethodGeneric c m i) (valueLine (q "mgeneric=") o) (cursor MethodGeneric c m (suc i))
+    unfolding lineAt nextAt
+    generic-step i o e =
+        single (told o (generic-at i e) (q "mgeneric="))
+        (goes o (generic-at i e) _ _ ∙ ap (cursor MethodGeneric c m) (next-few (k .generics) i (few .generics) e))
+
+    parameter-steps : (i : ℕ) (p : Parameter) → getElem? (k .parameters) i ≡ some p
+        → Steps v (cursor ParamType c m i) (parameterLines p) (cursor ParamType c m (suc i))
+    unfolding parameterLines lineAt nextAt
+    parameter-steps i p e =
+        after (told (p .type) (type-at i e) (q "ptype=")) (goes (p .type) (type-at i e) _ _)
+        (single (told (p .name) (name-at i e) (q "pname=")) (ap (cursor ParamType c m) (next-few (k .parameters) i (few .parameters) e)))
+
+    method-steps : nextNumber m ≡ suc m → Steps v (cursor AtMethod c m 0) (methodLines k) (cursor AtMethod c (suc m) 0)
+    unfolding methodLines lineAt nextAt
+    method-steps n =
+        after (told (k .name) method-name (q "method=")) (goes (k .name) method-name _ _)
+        (after (ap (answerLine (q "mflags=")) method-flags) refl
+        (then (items (valueLine (q "mgeneric=")) (cursor MethodGeneric c m) (k .generics) generic-step
+        (single (untold generic-past (q "mgeneric=")) (leaves generic-past _ _)))
+        (after (told (k .returns) return-type (q "returns=")) refl
+        (items parameterLines (cursor ParamType c m) (k .parameters) parameter-steps
+        (single (untold type-past (q "ptype=")) (leaves type-past _ _ ∙ ap (λ (x : ℕ). cursor AtMethod c x 0) n))))))
+
+-- A class's lines.
+module _ (v : View) (c : ℕ) (k : Class) (is : theClass v c ≡ value k) where
+  method-at : (m : ℕ) {x : Method} → getElem? (k .methods) m ≡ some x → theMethod v c m ≡ value x
+  method-at m e = rw (is, e)
+
+  method-past : methodName v c (length (k .methods)) ≡ refused (number NoSuchRow)
+  unfolding methodName
+  method-past = rw (is, item-end (k .methods))
+
+  class-name : className v c ≡ nameOr5 (k .name)
+  unfolding className
+  class-name = rw is
+
+  class-flags : classFlags v c ≡ value (k .flags)
+  unfolding classFlags
+  class-flags = rw is
+
+  class-generic : (i : ℕ) {o : Option Text} → getElem? (k .generics) i ≡ some o → genericName v c i ≡ nameOr5 o
+  unfolding genericName
+  class-generic i e = rw (is, e)
+
+  class-generic-past : genericName v c (length (k .generics)) ≡ refused (number NoSuchRow)
+  unfolding genericName
+  class-generic-past = rw (is, item-end (k .generics))
+
+  base-at : (i : ℕ) {t : Text} → getElem? (k .bases) i ≡ some t → baseName v c i ≡ nameOr5 (some t)
+  unfolding baseName
+  base-at i e = rw (is, e)
+
+  base-past : baseName v c (length (k .bases)) ≡ refused (number NoSuchRow)
+  unfolding baseName
+  base-past = rw (is, item-end (k .bases))
+
+  module _ (few : FewInClass k) where
+    class-generic-step : (i : ℕ) (o : Option Text) → getElem? (k .generics) i ≡ some o
+        → Steps v (cursor Generic c 0 i) (valueLine (q "generic=") o) (cursor Generic c 0 (suc i))
+    unfolding lineAt nextAt
+    class-generic-step i o e =
+        single (told o (class-generic i e) (q "generic="))
+        (goes o (class-generic i e) _ _ ∙ ap (cursor Generic c 0) (next-few (k .generics) i (few .generics) e))
+
+    base-step : (i : ℕ) (t : Text) → getElem? (k .bases) i ≡ some t
+        → Steps v (cursor Base c 0 i) (valueLine (q "base=") (some t)) (cursor Base c 0 (suc i))
+    unfolding lineAt nextAt
+    base-step i t e =
+        single (told (some t) (base-at i e) (q "base="))
+        (goes (some t) (base-at i e) _ _ ∙ ap (cursor Base c 0) (next-few (k .bases) i (few .bases) e))
+
+    method-turn : (m : ℕ) (x : Method) → getElem? (k .methods) m ≡ some x
+        → Steps v (cursor AtMethod c m 0) (methodLines x) (cursor AtMethod c (suc m) 0)
+    method-turn m x e = method-steps v c m x (method-at m e) (few .each m x e) (next-few (k .methods) m (few .methods) e)
+
+    class-steps : nextNumber c ≡ suc c → Steps v (cursor AtClass c 0 0) (classLines k) (cursor AtClass (suc c) 0 0)
+    unfolding classLines lineAt nextAt
+    class-steps n =
+        after (told (k .name) class-name (q "class=")) (goes (k .name) class-name _ _)
+        (after (ap (answerLine (q "flags=")) class-flags) refl
+        (then (items (valueLine (q "generic=")) (cursor Generic c 0) (k .generics) class-generic-step
+        (single (untold class-generic-past (q "generic=")) (leaves class-generic-past _ _)))
+        (then (items (λ b. valueLine (q "base=") (some b)) (cursor Base c 0) (k .bases) base-step
+        (single (untold base-past (q "base=")) (leaves base-past _ _)))
+        (items methodLines (λ (m : ℕ). cursor AtMethod c m 0) (k .methods) method-turn
+        (single (untold method-past (q "method=")) (leaves method-past _ _ ∙ ap (λ (x : ℕ). cursor AtClass x 0 0) n))))))
+
+-- The whole listing, by what opening the streams found.
+module _ (v : View) (few : FewIn v) where
+  module _ (ready : theClasses v ≡ value (classRecord v)) where
+    class-at : (c : ℕ) {k : Class} → getElem? (classRecord v) c ≡ some k → theClass v c ≡ value k
+    class-at c e = rw (ready, e)
+
+    class-past : className v (length (classRecord v)) ≡ refused (number NoSuchRow)
+    unfolding className
+    class-past = rw (ready, item-end (classRecord v))
+
+    class-count : classCount v ≡ value (length (classRecord v))
+    unfolding classCount
+    class-count = rw ready
+
+    class-turn : (c : ℕ) (k : Class) → getElem? (classRecord v) c ≡ some k
+        → Steps v (cursor AtClass c 0 0) (classLines k) (cursor AtClass (suc c) 0 0)
+    class-turn c k e = class-steps v c k (class-at c e) (few .each c k e) (next-few (classRecord v) c (few .classes) e)
+
+    record-steps : (stop : ℕ) → walkAnswer v .stop ≡ value stop → Steps v first (recordLines stop (classRecord v)) done
+    unfolding recordLines lineAt nextAt
+    record-steps stop e =
+        after (ap stopLine e) (ap afterStop e)
+        (after (ap (answerLine (q "classes=")) class-count) refl
+        (items classLines (λ (c : ℕ). cursor AtClass c 0 0) (classRecord v) class-turn
+        (single (untold class-past (q "class=")) (leaves class-past _ _))))
+
+    listing-found : (stop : ℕ) → walkAnswer v .stop ≡ value stop → listing v ≡ recordLines stop (classRecord v)
+    unfolding listing
+    listing-found stop e = rw (e, ready)
+
+  listing-refused : (n : ℕ) → walkAnswer v .stop ≡ refused n → listing v ≡ refusedLine n
+  unfolding listing
+  listing-refused n e = rw e
+
+  refused-steps : (n : ℕ) → walkAnswer v .stop ≡ refused n → Steps v first (refusedLine n) done
+  unfolding lineAt nextAt
+  refused-steps n e = single (ap stopLine e) (ap afterStop e)
+
+  stop-refused : {why : Refusal} → v .header .answer ≡ Refused why → walkAnswer v .stop ≡ refused (number why)
+  unfolding walkReply
+  stop-refused e = rw e
+
+  abbrev Listed : Text → Type 0
+  Listed t = Steps v first t done
+
+  by-opening : (a : Opened) → v .header .answer ≡ a → (s : Answer ℕ) → walkAnswer v .stop ≡ s → Listed (listing v)
+  by-opening a e (refused n) f = subst Listed (sym (listing-refused n f)) (refused-steps n f)
+  by-opening (Refused why) e (value stop) f =
+      let g : refused (number why) ≡ value stop = sym (stop-refused e) ∙ f in
+      let z : _≡_ {A = ℕ} 0 1 = cc in
+      absurd (omega arith)
+  by-opening Ready e (value stop) f =
+      let ready : theClasses v ≡ value (classRecord v) = rw e in
+      subst Listed (sym (listing-found ready stop f)) (record-steps ready stop f)
+
+pub listed : (v : View) → FewIn v → Steps v first (listing v) done
+listed v few = by-opening v few (v .header .answer) refl (walkAnswer v .stop) refl
