@@ -26,8 +26,6 @@
 #define TICK 50000           /* microseconds */
 #define TICKS_A_CALL 6
 
-enum { SHORT_HEADER = 1, SHORT_COUNTS, TOO_MANY_ROWS, NO_SUCH_ROW, NO_NAME, BUFFER_TOO_SMALL };
-
 /* ---- memory that ends where it must */
 
 struct region { uint8_t *start, *end; };
@@ -49,9 +47,9 @@ static struct input input;
 
 /* Places the three streams, from `copy`. */
 static void place(void) {
-    struct dotnet_bytes *to[3] = { &input.tables, &input.strings, &input.blob };
+    struct bytes *to[3] = { &input.tables, &input.strings, &input.blob };
     for (int i = 0; i < 3; i++) {
-        *to[i] = (struct dotnet_bytes){ streams[i].end - lengths[i], lengths[i] };
+        *to[i] = (struct bytes){ streams[i].end - lengths[i], lengths[i] };
         memcpy(streams[i].end - lengths[i], copy[i], lengths[i]);
     }
 }
@@ -115,27 +113,27 @@ static void catch_signals(void) {
 
 /* ---- asking */
 
-static struct dotnet_reply ask(int call, const uint32_t *rows, struct dotnet_buffer buffer) {
+static dn_reply ask(int call, const uint32_t *rows, struct buffer buffer) {
     current = &calls[call];
     memcpy(current_rows, rows, sizeof current_rows);
     asked++, ticks = 0, armed = 1;
-    struct dotnet_reply reply = current->ask(&input, rows, buffer);
+    dn_reply reply = current->ask(&input, rows, buffer);
     armed = 0;
     return reply;
 }
 
-static const struct dotnet_buffer no_buffer;
+static const struct buffer no_buffer;
 
 /* How many there are, or 0. */
 static uint64_t count(int call, const uint32_t *rows) {
-    struct dotnet_reply reply = ask(call, rows, no_buffer);
-    return reply.no ? 0 : reply.value;
+    dn_reply reply = ask(call, rows, no_buffer);
+    return reply.refusal ? 0 : reply.value;
 }
 
-static struct dotnet_buffer buffer_of(size_t length, int fill) {
+static struct buffer buffer_of(size_t length, int fill) {
     memset(lent.end - length - CANARY, 0x5C, CANARY);
     memset(lent.end - length, fill, length);
-    return (struct dotnet_buffer){ lent.end - length, length };
+    return (struct buffer){ lent.end - length, length };
 }
 
 static int is_zero(const uint8_t *at, size_t length) {
@@ -143,17 +141,17 @@ static int is_zero(const uint8_t *at, size_t length) {
 }
 
 /* Asks for a name, and looks at the whole buffer and at what stands before it. */
-static struct dotnet_reply ask_name(int call, const uint32_t *rows, size_t length, int fill) {
-    struct dotnet_buffer buffer = buffer_of(length, fill);
-    struct dotnet_reply reply = ask(call, rows, buffer);
+static dn_reply ask_name(int call, const uint32_t *rows, size_t length, int fill) {
+    struct buffer buffer = buffer_of(length, fill);
+    dn_reply reply = ask(call, rows, buffer);
     for (int i = 1; i <= CANARY; i++)
         if (buffer.at[-i] != 0x5C) { report("bytes before the buffer are written"); break; }
-    if (reply.no ? reply.value : reply.value > length) report("a length that cannot be");
+    if (reply.refusal ? reply.value : reply.value > length) report("a length that cannot be");
     else if (!is_zero(buffer.at + reply.value, length - reply.value)) report("bytes that are not zero after the name");
     return reply;
 }
 
-static int same(struct dotnet_reply a, struct dotnet_reply b) { return a.no == b.no && a.value == b.value; }
+static int same(dn_reply a, dn_reply b) { return a.refusal == b.refusal && a.value == b.value; }
 
 /* ---- seeds */
 
@@ -200,17 +198,17 @@ static void take(const struct seed *seed) {
 
 static void check_lengths(int call, const uint32_t *rows) {
     static uint8_t name[ROOM];
-    struct dotnet_reply whole = ask_name(call, rows, ROOM, 0);
-    size_t n = whole.no ? 0 : whole.value;
+    dn_reply whole = ask_name(call, rows, ROOM, 0);
+    size_t n = whole.refusal ? 0 : whole.value;
     memcpy(name, lent.end - ROOM, n);
     for (size_t length = 0; length <= n + 2 && length <= ROOM; length++) {
         if (n > 600 && length > 64 && length + 64 < n) length = n - 64;
-        struct dotnet_reply expected = whole;
-        if (!whole.no && length < n) expected = (struct dotnet_reply){ BUFFER_TOO_SMALL, 0 };
+        dn_reply expected = whole;
+        if (!whole.refusal && length < n) expected = (dn_reply){ .refusal = DN_BUFFER_TOO_SMALL };
         for (int fill = 0; fill < 3; fill++) {
-            struct dotnet_reply reply = ask_name(call, rows, length, (const int[]){ 0x00, 0xAA, 0xFF }[fill]);
+            dn_reply reply = ask_name(call, rows, length, (const int[]){ 0x00, 0xAA, 0xFF }[fill]);
             if (!same(reply, expected)) report("another reply for another length or filling");
-            else if (!reply.no && memcmp(lent.end - length, name, n)) report("another name for another length or filling");
+            else if (!reply.refusal && memcmp(lent.end - length, name, n)) report("another name for another length or filling");
         }
     }
 }
@@ -339,10 +337,10 @@ static int some_rows(int call, int out, uint32_t *rows) {
     return inside;
 }
 
-static void check_call(int call, uint8_t refusal, int out) {
+static void check_call(int call, size_t refusal, int out) {
     uint32_t rows[3];
     int inside = some_rows(call, out, rows);
-    struct dotnet_reply reply, again;
+    dn_reply reply, again;
     if (calls[call].is_name) {
         static uint8_t before[ROOM];
         size_t length = (const size_t[]){ below(3), below(24), below(24), below(200), 4096 }[below(5)];
@@ -355,24 +353,26 @@ static void check_call(int call, uint8_t refusal, int out) {
         again = ask(call, rows, no_buffer);
     }
     if (!same(reply, again)) report("another reply the second time");
-    int may_fail = calls[call].is_name && (reply.no == NO_NAME || reply.no == BUFFER_TOO_SMALL);
-    if (refusal ? reply.no != refusal : inside ? reply.no && !may_fail : reply.no != NO_SUCH_ROW)
+    int may_fail = calls[call].is_name && (reply.refusal == DN_NO_NAME || reply.refusal == DN_BUFFER_TOO_SMALL);
+    if (refusal ? reply.refusal != refusal : inside ? reply.refusal && !may_fail : reply.refusal != DN_NO_SUCH_ROW)
         report("a refusal that does not belong there, or none where one does");
 }
 
 /* The tables adjoin, and none reaches past the stream's end. */
-static void check_walk(uint8_t refusal) {
-    struct dotnet_extents walk = dotnet_walk(input.tables);
-    asked++;
-    if (walk.reply.no != refusal || (refusal ? walk.reply.value : walk.reply.value > 64)) report("a walk with another reply");
-    for (uint64_t kind = 0, end = 0; kind < 64; kind++) {
-        if (!walk.sizes[kind]) {
-            if (walk.starts[kind] || walk.rows[kind]) report("a table without rows that has a place");
+static void check_walk(size_t refusal) {
+    dn_reply stop = ask(WALK_STOP, (const uint32_t[3]){ 0, 0, 0 }, no_buffer);
+    size_t end = 0;
+    if (stop.refusal != refusal || (refusal ? stop.value : stop.value > 64)) report("a walk with another reply");
+    for (uint32_t kind = 0; kind < 64; kind++) {
+        dn_extent table = dn_walk_extent(input.tables.at, input.tables.length, kind);
+        asked++;
+        if (!table.size) {
+            if (table.start || table.rows) report("a table without rows that has a place");
             continue;
         }
-        if (end && walk.starts[kind] != end) report("tables that do not adjoin");
-        end = walk.starts[kind] + (uint64_t)walk.sizes[kind] * walk.rows[kind];
-        if (end > input.tables.length || kind > walk.reply.value) report("a table past the end");
+        if (end && table.start != end) report("tables that do not adjoin");
+        end = table.start + table.size * table.rows;
+        if (end > input.tables.length || kind > stop.value) report("a table past the end");
     }
 }
 
@@ -381,12 +381,12 @@ static void run_inputs(unsigned long times) {
     for (left = times; left; left--) {
         if (sigsetjmp(too_long, 1)) { slow++, save_input("slow"); continue; }
         make_input(), place();
-        struct dotnet_reply opened = ask(CLASS_COUNT, (const uint32_t[3]){ 0, 0, 0 }, no_buffer);
-        if (opened.no > TOO_MANY_ROWS) report("a refusal that opening does not have");
-        check_walk(opened.no);
+        dn_reply opened = ask(CLASS_COUNT, (const uint32_t[3]){ 0, 0, 0 }, no_buffer);
+        if (opened.refusal > DN_TOO_MANY_ROWS) report("a refusal that opening does not have");
+        check_walk(opened.refusal);
         for (int call = 0; call < CALLS; call++)
             for (int out = -1; out < calls[call].rows; out++)
-                check_call(call, opened.no, out);
+                check_call(call, opened.refusal, out);
         if (!are_unchanged()) report("a stream is changed");
     }
 }

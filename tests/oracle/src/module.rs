@@ -12,6 +12,7 @@ pub mod dotnet {
 
     // Children of `dotnet`, so that they see the private functions and fields.
     pub mod leaves;
+    pub mod listing;
     pub mod probe;
 }
 

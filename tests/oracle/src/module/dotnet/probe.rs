@@ -88,13 +88,13 @@ fn catch<T>(run: impl FnOnce() -> T) -> Result<T, NoAnswer> {
 
 // Opening and walking, as `add_metadata_tables` does.
 
-struct Opened<'a> {
-    counts: [u32; 64],
+pub(super) struct Opened<'a> {
+    pub(super) counts: [u32; 64],
     heap_sizes: u8,
     rest: Bytes<'a>,
 }
 
-fn open(stream: &[u8]) -> Result<Opened<'_>, NoAnswer> {
+pub(super) fn open(stream: &[u8]) -> Result<Opened<'_>, NoAnswer> {
     let mut bytes = Bytes(stream);
     let header = bytes
         .read::<MetadataStreamHeader>()
@@ -121,7 +121,7 @@ fn open(stream: &[u8]) -> Result<Opened<'_>, NoAnswer> {
     })
 }
 
-fn tables_data<'a>(streams: &Streams<'a>, opened: &Opened<'a>) -> TablesData<'a> {
+pub(super) fn tables_data<'a>(streams: &Streams<'a>, opened: &Opened<'a>) -> TablesData<'a> {
     TablesData::new(
         &[],
         opened.rest,
@@ -149,7 +149,7 @@ pub(super) fn heaps_alone(heap: &[u8]) -> TablesData<'_> {
     tables_data(&streams, &opened)
 }
 
-fn no_sections() -> pe_utils::SectionTable<'static> {
+pub(super) fn no_sections() -> pe_utils::SectionTable<'static> {
     let zeros = [0; 512];
     let (headers, _) = object::pod::from_bytes::<ImageNtHeaders32>(&zeros).unwrap();
     pe_utils::SectionTable::new(headers, &[], 0).unwrap()
@@ -339,7 +339,7 @@ fn params(params: &Value) -> Vec<ParamRecord> {
 
 // Reading values. A value of another shape is a fault of the probe, and panics.
 
-fn field<'a>(value: &'a Value, key: &str) -> &'a Value {
+pub(super) fn field<'a>(value: &'a Value, key: &str) -> &'a Value {
     match value {
         Value::Object(fields) => &fields[key],
         _ => panic!("no object"),
@@ -353,7 +353,7 @@ fn field_mut<'a>(value: &'a mut Value, key: &str) -> &'a mut Value {
     }
 }
 
-fn array(value: &Value) -> &[Value] {
+pub(super) fn array(value: &Value) -> &[Value] {
     match value {
         Value::Array(values) => values,
         _ => panic!("no array"),
@@ -390,7 +390,7 @@ fn original_values(streams: &Streams) -> HashMap<&'static str, Value> {
 }
 
 /// A root, a directory of three streams, and the streams (ECMA 335, II.24.2.1 and II.24.2.2).
-fn metadata_block(streams: &Streams) -> Vec<u8> {
+pub(super) fn metadata_block(streams: &Streams) -> Vec<u8> {
     const NAMES: [&[u8]; 3] = [b"#~\0\0", b"#Strings\0\0\0\0", b"#Blob\0\0\0"];
     let contents = [streams.tables, streams.strings, streams.blob];
 

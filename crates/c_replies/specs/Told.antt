@@ -1,0 +1,46 @@
+-- What the calls for C answer, by the definitions of the library's calls: the numbers of document 01, side by side.
+use mathlib.Core.Path.{_≡_}
+use mathlib.Core.Bool.{cond}
+use mathlib.Core.List.{List}
+use Prim.Native.Nat.{ℕ}
+use lib.Dec.{eqb, ltb}
+use lib.ListN.{length, getD}
+use Rattle.buffers.specs.Texts.{Text}
+use Rattle.buffers.specs.Replies.{number, Answer, refused, value, nameReply, nameBuffer}
+use Rattle.buffers.specs.declared.Refusal.the-variants.{NotFound}
+use Rattle.heaps.specs.Lookups.{stringAt, blobAt, partNumber, partStart, partLength}
+use Rattle.heaps.specs.declared.Part.{Part}
+use Rattle.tables.specs.Extents.{Walked}
+use Rattle.c_replies.specs.declared.DnReply.{DnReply}
+use Rattle.c_replies.specs.declared.DnPart.{DnPart}
+use Rattle.c_replies.specs.declared.DnExtent.{DnExtent}
+
+-- An answer: its value and 0, or 0 and the number that says no.
+abbrev pub told : Answer ℕ → DnReply
+told (value n) = record { value = n; refusal = 0 }
+told (refused n) = record { value = 0; refusal = n }
+
+-- The promise of a call for a name, as `Named` is that of the library's: the entire reply and the entire final buffer.
+pub record ToldName (a : Answer Text) (before : List ℕ) (r : DnReply) (after : List ℕ) : Type 0 where
+  pub reply : r ≡ told (nameReply a (length before))
+  pub buffer : after ≡ nameBuffer a (length before)
+
+-- A lookup that finds nothing.
+abbrev pub noPart : DnPart
+noPart = record { start = 0; len = 0; refusal = number NotFound }
+
+-- The place of a lookup in its heap.
+abbrev pub toldPart : Part → DnPart
+toldPart p = record { start = partStart p; len = partLength p; refusal = partNumber p }
+
+-- The raw lookup: heap 0 is that of the strings and 1 that of the blobs; in another heap nothing is found.
+unfoldable pub toldLookup : List ℕ → List ℕ → ℕ → ℕ → DnPart
+toldLookup strings blobs which i =
+    cond (eqb which 0) (toldPart (stringAt strings i))
+    (cond (eqb which 1) (toldPart (blobAt blobs i)) noPart)
+
+-- What a walk says of one of the 64 kinds; all is 0 for a number that is no kind.
+unfoldable pub toldExtent : Walked → ℕ → DnExtent
+toldExtent w k =
+    cond (ltb k 64) (record { start = getD (w .starts) k 0; size = getD (w .sizes) k 0; rows = getD (w .rows) k 0 })
+    (record { start = 0; size = 0; rows = 0 })

@@ -1,0 +1,40 @@
+use borrow.Author.Needs.{needs}
+use Rattle.record.specs.Answers.{MethodGenericName}
+use Rattle.dotnet_c.proofs.Laws.{told-name}
+use Rattle.dotnet_c.proofs.dn_method_generic_name.Statement.{statement}
+use Rattle.dotnet_c.proofs.dn_method_generic_name.Tie as tie
+use Rattle.dotnet_c.proofs.dn_method_generic_name.Reads as reads
+use Rattle.dotnet_c.proofs.dn_method_generic_name.Lts as lts
+use Rattle.c_replies.proofs.reply_of.Reads as reply-of-reads
+use Rattle.dotnet.proofs.method_generic_name.Reads as method-generic-name-reads
+use Rattle.header.proofs.base_options.Reads as base-options-reads
+
+-- src/lib.rt:265:9
+base-options-requires : tie.Need-base-options-requires
+base-options-requires c κs = search needs
+
+-- src/lib.rt:261:25
+method-generic-name-requires : tie.Need-method-generic-name-requires
+method-generic-name-requires c κs = search needs
+
+-- src/lib.rt:261:5
+reply-of-requires : tie.Need-reply-of-requires
+reply-of-requires c κs = search needs
+
+-- src/lib.rt:249:1
+same-length : tie.Need-same-length
+same-length c = search needs
+
+-- src/lib.rt:249:1
+returns : tie.Need-returns
+returns c = told-name (c .before .before .before .before .before .base-options .ensures) _ _ _ (c .before .before .before .method-generic-name .result) (c .reply-of .ensures) (MethodGenericName _ _ _) (c .before .before .before .method-generic-name .ensures)
+
+pub dn-method-generic-name-spec : {M : Type 1} → statement M
+dn-method-generic-name-spec =
+    tie.close
+    (tie.spec
+    base-options-requires
+    method-generic-name-requires
+    reply-of-requires
+    same-length
+    returns)

@@ -1,0 +1,35 @@
+use borrow.Author.Needs.{needs}
+use Rattle.record.specs.Answers.{ReturnType}
+use Rattle.dotnet_c.proofs.Laws.{told-name}
+use Rattle.dotnet_c.proofs.dn_return_type.Statement.{statement}
+use Rattle.dotnet_c.proofs.dn_return_type.Tie as tie
+use Rattle.dotnet_c.proofs.dn_return_type.Reads as reads
+use Rattle.dotnet_c.proofs.dn_return_type.Lts as lts
+use Rattle.c_replies.proofs.reply_of.Reads as reply-of-reads
+use Rattle.dotnet.proofs.return_type.Reads as return-type-reads
+use Rattle.header.proofs.base_options.Reads as base-options-reads
+
+-- src/lib.rt:289:9
+base-options-requires : tie.Need-base-options-requires
+base-options-requires c κs = search needs
+
+-- src/lib.rt:285:25
+return-type-requires : tie.Need-return-type-requires
+return-type-requires c κs = search needs
+
+-- src/lib.rt:285:5
+reply-of-requires : tie.Need-reply-of-requires
+reply-of-requires c κs = search needs
+
+-- src/lib.rt:274:1
+same-length : tie.Need-same-length
+same-length c = search needs
+
+-- src/lib.rt:274:1
+returns : tie.Need-returns
+returns c = told-name (c .before .before .before .before .before .base-options .ensures) _ _ _ (c .before .before .before .return-type .result) (c .reply-of .ensures) (ReturnType _ _) (c .before .before .before .return-type .ensures)
+
+pub dn-return-type-spec : {M : Type 1} → statement M
+dn-return-type-spec =
+    tie.close
+    (tie.spec base-options-requires return-type-requires reply-of-requires same-length returns)

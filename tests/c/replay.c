@@ -1,0 +1,194 @@
+/* The calls of include/dotnet_tables.h, linked as a C program links them, against recorded answers of the Rust:
+
+     replay CALLS WALKS
+
+   CALLS is crates/call_vectors/data/cases and WALKS crates/replay/data/cases; those crates' src/main.rt say their forms. A name is asked
+   for in buffers of several lengths, full of 0xAA before, and every byte is looked at afterwards. Exit status: 0 all agree, 1 some answer
+   differs, 2 a file cannot be read. */
+#include <stdio.h>
+#include <stdlib.h>
+#include <string.h>
+#include "dotnet_tables.h"
+
+typedef struct bytes {
+    uint8_t *at;
+    size_t len;
+} bytes;
+
+static bytes tables, strings, blob;
+static size_t agreed, differed;
+
+#define STREAMS tables.at, tables.len, strings.at, strings.len, blob.at, blob.len
+
+/* The call of that name; `numbers` are a class and what is asked for in it. */
+static int ask(const char *call, const uint32_t *numbers, uint8_t *buf, size_t len, dn_reply *reply) {
+    uint32_t c = numbers[0], m = numbers[1], p = numbers[2];
+#define CALL(name, ...) if (!strcmp(call, #name)) return *reply = dn_##name(STREAMS __VA_ARGS__), 1
+    CALL(class_count, );
+    CALL(class_flags, , c);
+    CALL(class_name, , c, buf, len);
+    CALL(generic_count, , c);
+    CALL(generic_name, , c, m, buf, len);
+    CALL(base_count, , c);
+    CALL(base_name, , c, m, buf, len);
+    CALL(method_count, , c);
+    CALL(method_flags, , c, m);
+    CALL(method_name, , c, m, buf, len);
+    CALL(method_generic_count, , c, m);
+    CALL(method_generic_name, , c, m, p, buf, len);
+    CALL(return_type, , c, m, buf, len);
+    CALL(param_count, , c, m);
+    CALL(param_type, , c, m, p, buf, len);
+    CALL(param_name, , c, m, p, buf, len);
+    return 0;
+}
+
+static bytes read_file(const char *path) {
+    FILE *file = fopen(path, "rb");
+    bytes all = {NULL, 0};
+    if (!file || fseek(file, 0, SEEK_END)) exit((perror(path), 2));
+    all.len = (size_t)ftell(file);
+    all.at = malloc(all.len + 1);
+    rewind(file);
+    if (!all.at || fread(all.at, 1, all.len, file) != all.len) exit((perror(path), 2));
+    all.at[all.len] = 0;
+    fclose(file);
+    return all;
+}
+
+/* The bytes that a text of hex digits gives; none for another text. */
+static bytes read_hex(const char *text) {
+    bytes out = {malloc(strlen(text) / 2 + 1), 0};
+    unsigned byte;
+    if (!out.at) exit(2);
+    for (; sscanf(text, "%2x", &byte) == 1 && text[1]; text += 2) out.at[out.len++] = (uint8_t)byte;
+    return out;
+}
+
+static int zero_from(const uint8_t *buf, size_t from, size_t len) {
+    while (from < len)
+        if (buf[from++]) return 0;
+    return 1;
+}
+
+/* Whether a name, or the refusal of one, is answered right in a buffer of that length. */
+static int room_agrees(const char *call, const uint32_t *numbers, size_t refusal, bytes name, size_t room) {
+    uint8_t *buf = malloc(room + 1);
+    dn_reply reply;
+    if (!buf) exit(2);
+    memset(buf, 0xAA, room + 1);
+    if (!refusal && room < name.len) refusal = DN_BUFFER_TOO_SMALL;
+    size_t written = refusal ? 0 : name.len;
+    int well = ask(call, numbers, buf, room, &reply) && reply.refusal == refusal && reply.value == written
+        && !memcmp(buf, name.at, written) && zero_from(buf, written, room) && buf[room] == 0xAA;
+    free(buf);
+    return well;
+}
+
+static int name_agrees(const char *call, const uint32_t *numbers, size_t refusal, const char *answer) {
+    bytes name = read_hex(refusal ? "" : answer);
+    size_t few = name.len < 64 ? name.len : 2;
+    int well = 1;
+    for (size_t room = 0; room < few; room++) well &= room_agrees(call, numbers, refusal, name, room);
+    for (size_t room = name.len < 2 ? 0 : name.len - 1; room <= name.len + 2; room++) well &= room_agrees(call, numbers, refusal, name, room);
+    free(name.at);
+    return well;
+}
+
+/* `CALL NUMBERS = ANSWER`; an answer is a number, a name in hex, or `!` and a refusal. */
+static int answer_agrees(const char *line) {
+    char call[64];
+    uint32_t numbers[3] = {0, 0, 0};
+    const char *answer = strchr(line, '=');
+    dn_reply reply;
+    if (!answer || sscanf(line, "%63s", call) != 1) return 0;
+    answer += answer[1] == ' ' ? 2 : 1;
+    const char *at = line + strlen(call);
+    for (int i = 0; i < 3 && at[1] != '='; i++) numbers[i] = (uint32_t)strtoul(at, (char **)&at, 10);
+    size_t refusal = *answer == '!' ? strtoul(answer + 1, NULL, 10) : 0;
+    if (strstr(call, "_name") || strstr(call, "_type")) return name_agrees(call, numbers, refusal, answer);
+    size_t value = refusal ? 0 : strtoul(answer, NULL, 10);
+    return ask(call, numbers, NULL, 0, &reply) && reply.value == value && reply.refusal == refusal;
+}
+
+static void tally(int well, const char *what) {
+    if (well) agreed++;
+    else if (differed++ < 10) printf("FAIL  %s\n", what);
+}
+
+static void stream_of(const char *line, const char *key, bytes *stream) {
+    if (!strncmp(line, key, strlen(key)) && line[strlen(key)] == ' ') {
+        free(stream->at);
+        *stream = read_hex(line + strlen(key) + 1);
+    }
+}
+
+static void replay_calls(bytes file) {
+    for (char *line = strtok((char *)file.at, "\n"); line; line = strtok(NULL, "\n")) {
+        stream_of(line, "tables", &tables), stream_of(line, "strings", &strings), stream_of(line, "blob", &blob);
+        if (*line != '#' && *line != '@' && strchr(line, '=')) tally(answer_agrees(line), line);
+    }
+}
+
+/* The lines `KIND START SIZE ROWS` and `stop=KIND`, or `refused=NUMBER`. */
+static int walk_agrees(const char *text) {
+    size_t kind, start, size, rows, number;
+    int used;
+    dn_reply stop = dn_walk_stop(tables.at, tables.len);
+    for (; sscanf(text, "%zu %zu %zu %zu %n", &kind, &start, &size, &rows, &used) == 4; text += used) {
+        dn_extent e = dn_walk_extent(tables.at, tables.len, (uint32_t)kind);
+        if (e.start != start || e.size != size || e.rows != rows) return 0;
+    }
+    dn_extent none = dn_walk_extent(tables.at, tables.len, 64);
+    if (none.start || none.size || none.rows) return 0;
+    if (sscanf(text, "refused=%zu", &number) == 1) return stop.refusal == number && !stop.value;
+    return sscanf(text, "stop=%zu", &number) == 1 && stop.value == number && !stop.refusal;
+}
+
+static uint32_t word(const uint8_t *at) {
+    return at[0] | (uint32_t)at[1] << 8 | (uint32_t)at[2] << 16 | (uint32_t)at[3] << 24;
+}
+
+/* Inputs that are no bundle, refusal 8, never reach the library. */
+static void replay_walks(bytes file) {
+    size_t len;
+    for (size_t at = 0; at + 8 <= file.len;) {
+        size_t input = word(file.at + at), text = word(file.at + at + 4);
+        char *in = (char *)file.at + at + 8, *expected = calloc(text + 1, 1);
+        if (!expected || at + 8 + input + text > file.len) exit(2);
+        memcpy(expected, in + input, text);
+        at += 8 + input + text;
+        if (strcmp(expected, "refused=8\n") && sscanf(in, "tables=%zu", &len) == 1) {
+            for (int lines = 0; lines < 3; lines++) in = strchr(in, '\n') + 1;
+            free(tables.at);
+            tables.at = malloc(len + 1);
+            if (!tables.at) exit(2);
+            memcpy(tables.at, in, tables.len = len);
+            tally(walk_agrees(expected), expected);
+        }
+        free(expected);
+    }
+}
+
+static void lookups(void) {
+    uint8_t text[] = {0, 'A', 0, 'B'}, parts[] = {2, 7, 8};
+    dn_part a = dn_lookup(text, 4, parts, 3, DN_STRINGS, 1), none = dn_lookup(text, 4, parts, 3, DN_STRINGS, 3);
+    dn_part b = dn_lookup(text, 4, parts, 3, DN_BLOBS, 0), other = dn_lookup(text, 4, parts, 3, 2, 1);
+    tally(a.start == 1 && a.len == 1 && !a.refusal, "a string");
+    tally(!none.start && !none.len && none.refusal == DN_NOT_FOUND, "a string that no zero ends");
+    tally(b.start == 1 && b.len == 2 && !b.refusal, "a blob");
+    tally(!other.start && !other.len && other.refusal == DN_NOT_FOUND, "a heap that there is not");
+}
+
+int main(int count, char **words) {
+    if (count != 3) return fprintf(stderr, "usage: replay CALLS WALKS\n"), 2;
+    bytes calls = read_file(words[1]), walks = read_file(words[2]);
+    replay_calls(calls);
+    printf("calls: %zu agreed, %zu differed\n", agreed, differed);
+    size_t differed_before = differed;
+    agreed = differed = 0;
+    replay_walks(walks), lookups();
+    printf("walks and lookups: %zu agreed, %zu differed\n", agreed, differed);
+    free(calls.at), free(walks.at), free(tables.at), free(strings.at), free(blob.at);
+    return differed_before || differed ? 1 : 0;
+}

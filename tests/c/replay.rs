@@ -1,0 +1,98 @@
+//! The same calls as a Rust program links them, against the recorded answers of crates/call_vectors/data/cases:
+//!
+//!     replay CALLS
+//!
+//! A name is asked for in a buffer of its length and in one that is a byte longer. Exit status: 0 all agree, 1 some answer differs.
+use std::{env, fs, process, thread};
+
+#[repr(C)]
+#[derive(PartialEq, Clone, Copy)]
+struct DnReply {
+    value: usize,
+    refusal: usize,
+}
+
+macro_rules! calls {
+    ($($name:ident($($number:ident),*) $($buf:ident)?;)*) => {
+        extern "C" {
+            $(fn $name(tables: *const u8, tables_len: usize, strings: *const u8, strings_len: usize, blob: *const u8, blob_len: usize
+                $(, $number: u32)* $(, $buf: *mut u8, buf_len: usize)?) -> DnReply;)*
+        }
+        /// The call of that name, with a buffer if it takes one.
+        fn ask(call: &str, s: &[Vec<u8>; 3], n: &[u32], buf: &mut [u8]) -> Option<DnReply> {
+            let mut rest = n.iter().copied();
+            $(if stringify!($name).strip_prefix("dn_") == Some(call) {
+                // SAFETY: each slice is passed as its pointer and its length, and the buffer is lent to this call alone
+                return Some(unsafe { $name(s[0].as_ptr(), s[0].len(), s[1].as_ptr(), s[1].len(), s[2].as_ptr(), s[2].len()
+                    $(, { let $number = rest.next().unwrap_or(0); $number })* $(, { let $buf = buf.as_mut_ptr(); $buf }, buf.len())?) });
+            })*
+            None
+        }
+    };
+}
+
+calls! {
+    dn_class_count();
+    dn_class_flags(class);
+    dn_class_name(class) buf;
+    dn_generic_count(class);
+    dn_generic_name(class, generic) buf;
+    dn_base_count(class);
+    dn_base_name(class, base) buf;
+    dn_method_count(class);
+    dn_method_flags(class, method);
+    dn_method_name(class, method) buf;
+    dn_method_generic_count(class, method);
+    dn_method_generic_name(class, method, generic) buf;
+    dn_return_type(class, method) buf;
+    dn_param_count(class, method);
+    dn_param_type(class, method, parameter) buf;
+    dn_param_name(class, method, parameter) buf;
+}
+
+fn from_hex(text: &str) -> Vec<u8> {
+    text.as_bytes().chunks_exact(2).map(|two| u8::from_str_radix(std::str::from_utf8(two).unwrap(), 16).unwrap()).collect()
+}
+
+fn agrees(line: &str, streams: &[Vec<u8>; 3]) -> bool {
+    let (asked, answer) = line.split_once('=').unwrap();
+    let (mut words, answer) = (asked.split_whitespace(), answer.trim());
+    let call = words.next().unwrap();
+    let numbers: Vec<u32> = words.map(|n| n.parse().unwrap()).collect();
+    let refusal = answer.strip_prefix('!').map_or(0, |n| n.parse().unwrap());
+    if !call.ends_with("_name") && !call.ends_with("_type") {
+        let value = if refusal == 0 { answer.parse().unwrap() } else { 0 };
+        return ask(call, streams, &numbers, &mut []) == Some(DnReply { value, refusal });
+    }
+    let name = if refusal == 0 { from_hex(answer) } else { Vec::new() };
+    (0..2).all(|more| {
+        let mut buf = vec![0xAA; name.len() + more];
+        let mut expected = name.clone();
+        expected.resize(buf.len(), 0);
+        ask(call, streams, &numbers, &mut buf) == Some(DnReply { value: name.len(), refusal }) && buf == expected
+    })
+}
+
+fn replay() -> bool {
+    let text = fs::read_to_string(env::args().nth(1).expect("usage: replay CALLS")).expect("the file can be read");
+    let mut streams: [Vec<u8>; 3] = Default::default();
+    let (mut agreed, mut differed) = (0, 0);
+    for line in text.lines().filter(|line| !line.starts_with(['#', '@']) && !line.is_empty()) {
+        if let Some(at) = ["tables ", "strings ", "blob "].iter().position(|key| line.starts_with(key)) {
+            streams[at] = from_hex(line.split_once(' ').unwrap().1);
+        } else if agrees(line, &streams) {
+            agreed += 1;
+        } else {
+            differed += 1;
+            println!("FAIL  {line}");
+        }
+    }
+    println!("calls: {agreed} agreed, {differed} differed");
+    differed == 0
+}
+
+fn main() {
+    // types in signatures may nest deep: include/dotnet_tables.h, "Stack"
+    let thread = thread::Builder::new().stack_size(1 << 30).spawn(replay).expect("a thread with that stack");
+    process::exit(if thread.join().unwrap_or(false) { 0 } else { 1 });
+}
