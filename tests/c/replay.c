@@ -2,7 +2,7 @@
 
      replay CALLS WALKS
 
-   CALLS is crates/call_vectors/data/cases and WALKS crates/replay/data/cases; those crates' src/main.rt say their forms. A name is asked
+   CALLS is crates/call_vectors/data/cases and WALKS crates/extents_replay/data/cases; those crates' src/main.rt say their forms. A name is asked
    for in buffers of several lengths, full of 0xAA before, and every byte is looked at afterwards. Exit status: 0 all agree, 1 some answer
    differs, 2 a file cannot be read. */
 #include <stdio.h>

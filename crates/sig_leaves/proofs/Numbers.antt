@@ -1,11 +1,11 @@
 -- The ways through a number that is refused above a bound, and through what stands before a method's types: each starts from an answer
--- of the code that was matched. Also that a generic type is read by the number of its arguments (`instance-is`). Assumes nothing.
+-- of the code. Also that a generic type is read by the number of its arguments (`instance-is`). Assumes nothing.
 use mathlib.Core.Path.{_≡_, refl, sym, ap, _∙_}
-use mathlib.Core.Bool.{Bool, true, false}
+use mathlib.Core.Bool.{Bool, true, false, cond}
 use mathlib.Core.List.{List, _++_}
 use mathlib.Core.Option.{Option, none, some}
 use Prim.Native.Nat.{ℕ, _+_, _/_, _%_, _≤_, _<_}
-use native.Mathlib.Nat.{add-zero}
+use native.Mathlib.Nat.{add-zero, add-assoc}
 use borrow.Author.Tests.{eq-eqb, ne-eqb, lt-ltb, le-ltb}
 use lib.Dec.{ltb}
 use lib.ListN.{length, getD}
@@ -15,29 +15,54 @@ use Rattle.numbers.specs.declared.Uint.{Uint}
 use Rattle.numbers.specs.declared.Uint.the-variants.{Number, NoNumber}
 use Rattle.buffers.specs.Texts.{Text, q}
 use Rattle.record.specs.Types.{unless, counted, methodStart, arguments, instance}
-use Rattle.sig_leaves.specs.Leaves.{upTo, argumentCount}
+use Rattle.sig_reader.specs.Numbers.{nextNumber}
+use Rattle.sig_reader.proofs.Numbers.{after-none}
+use Rattle.sig_leaves.specs.Leaves.{bounded, upTo, argumentCount}
 
-module _ (most : ℕ) (s : List ℕ) (at : ℕ) {r : Uint} (told : uintSays r ≡ uint s at) where
-  pub up-to-none : {next : ℕ} → r ≡ NoNumber next → noneAt next ≡ upTo most s at
-  unfolding upTo
-  up-to-none e = rw (← told, e)
+module _ (most : ℕ) {u : Uint} where
+  pub bounded-none : {next : ℕ} → u ≡ NoNumber next → noneAt next ≡ bounded most u
+  bounded-none e = rw e
 
-  pub up-to-over : {n next : ℕ} → r ≡ Number n next → most < n → noneAt next ≡ upTo most s at
-  unfolding upTo
-  up-to-over {n} e h = rw (← told, e, lt-ltb most n h)
+  pub bounded-over : {n next : ℕ} → u ≡ Number n next → most < n → noneAt next ≡ bounded most u
+  bounded-over {n} e h = rw (e, lt-ltb most n h)
 
-  pub up-to-some : {n next : ℕ} → r ≡ Number n next → n ≤ most → someAt n next ≡ upTo most s at
-  unfolding upTo
-  up-to-some {n} e h = rw (← told, e, le-ltb most n h)
+  pub bounded-some : {n next : ℕ} → u ≡ Number n next → n ≤ most → someAt n next ≡ bounded most u
+  bounded-some {n} e h = rw (e, le-ltb most n h)
 
--- No type byte is read before a number.
-no-steps : (r : Uint) → uintSays r ≡ after 0 (after 0 (uintSays r))
-no-steps (Number n next) = refl
-no-steps (NoNumber next) = refl
+-- An answer that is refused above a bound, and the reading that does so.
+module _ (most : ℕ) (s : List ℕ) where
+  bound-is : (x : Bool) (n next : ℕ) → cond x (noneAt next) (someAt n next) ≡ unless x (give n) s next
+  bound-is true n next = refl
+  bound-is false n next = refl
+
+  bounded-is : (p : Reader ℕ) (at : ℕ) (u : Uint) → uintSays u ≡ p s at → bounded most u ≡ (p >>= (λ n. unless (ltb most n) (give n))) s at
+  bounded-is p at (Number n next) e = rw (← e) (bound-is (ltb most n) n next ∙ after-none _)
+  bounded-is p at (NoNumber next) e = rw (← e)
+
+pub up-to-is : (most : ℕ) (s : List ℕ) (at : ℕ) (u : Uint) → uintSays u ≡ uint s at → bounded most u ≡ upTo most s at
+unfolding upTo
+up-to-is most s at u e = bounded-is most s uint at u e
 
 counted-is : (s : List ℕ) (at : ℕ) → upTo 2000 s at ≡ counted s at
 unfolding upTo counted
 counted-is s at = refl
+
+-- Type bytes that are read before a reading count with those that are read before it goes on.
+after-chain : (o : Option ℕ) (next m n : ℕ) (k : ℕ → ℕ → Res ℕ) → after m (chain o next n k) ≡ chain o next (m + n) k
+after-chain none next m n k = refl
+after-chain (some a) next m n k = ap (λ (x : ℕ). record { got = k a next .got; next = k a next .next; steps = x }) (sym (add-assoc m n (k a next .steps)))
+
+-- The number of parameters after another number is the number after that, refused above 2,000.
+module _ (s : List ℕ) where
+  after-another : (o : Option ℕ) (next m : ℕ)
+      → (let v = chain o next m (λ _ to. uint s to) in chain (v .got) (v .next) (v .steps) (λ n to. unless (ltb 2000 n) (give n) s to)) ≡ chain o next m (λ _ to. counted s to)
+  unfolding counted
+  after-another none next m = refl
+  after-another (some a) next m = sym (after-chain (uint s next .got) (uint s next .next) m (uint s next .steps) (λ n to. unless (ltb 2000 n) (give n) s to))
+
+  counted-after : (at : ℕ) → (nextNumber >>= (λ n. unless (ltb 2000 n) (give n))) s at ≡ (uint >>= (λ _. counted)) s at
+  unfolding nextNumber
+  counted-after at = after-another (uint s at .got) (uint s at .next) (uint s at .steps)
 
 module _ (s : List ℕ) (at : ℕ) where
   pub start-end : length s ≤ at → noneAt at ≡ methodStart s at
@@ -49,18 +74,15 @@ module _ (s : List ℕ) (at : ℕ) where
     unfolding methodStart
     start-plain f r k =
         let e : uintSays r ≡ counted s (at + 1) = k ∙ counted-is s (at + 1) in
-        rw (lt-ltb at (length s) h, ne-eqb (getD s at 0 / 16 % 2) 1 f, ← e) (no-steps r)
+        rw (lt-ltb at (length s) h, ne-eqb (getD s at 0 / 16 % 2) 1 f, ← e) (after-none _ ∙ after-none _)
 
-    module _ (f : getD s at 0 / 16 % 2 ≡ 1) {g : Uint} (told : uintSays g ≡ uint s (at + 1)) where
-      pub start-generic : {n next : ℕ} → g ≡ Number n next → (r : Uint) → uintSays r ≡ upTo 2000 s next → uintSays r ≡ methodStart s at
+    module _ (f : getD s at 0 / 16 % 2 ≡ 1) where
+      start-flagged : after 0 ((uint >>= (λ _. counted)) s (at + 1)) ≡ methodStart s at
       unfolding methodStart
-      start-generic {next = next} ge r k =
-          let e : uintSays r ≡ counted s next = k ∙ counted-is s next in
-          rw (lt-ltb at (length s) h, eq-eqb (getD s at 0 / 16 % 2) 1 f, ← told, ge, ← e) (no-steps r)
+      start-flagged = rw (lt-ltb at (length s) h, eq-eqb (getD s at 0 / 16 % 2) 1 f)
 
-      pub start-generic-none : {next : ℕ} → g ≡ NoNumber next → noneAt next ≡ methodStart s at
-      unfolding methodStart
-      start-generic-none ge = rw (lt-ltb at (length s) h, eq-eqb (getD s at 0 / 16 % 2) 1 f, ← told, ge)
+      pub start-generic : (u : Uint) → uintSays u ≡ nextNumber s (at + 1) → bounded 2000 u ≡ methodStart s at
+      start-generic u e = bounded-is 2000 s nextNumber (at + 1) u e ∙ (counted-after s (at + 1) ∙ (after-none _ ∙ start-flagged))
 
 -- A reading that goes on with a number where it is not refused.
 module _ {B : Type 0} (most : ℕ) (k : ℕ → Reader B) (s : List ℕ) where

@@ -1,13 +1,16 @@
 -- What the leaves of a signature's rendering come to: numbers that are refused above a bound, the generic names of an owner that may be
 -- nobody, and a place in the blob heap.
 use mathlib.Core.Path.{_≡_}
+use mathlib.Core.Bool.{cond}
 use mathlib.Core.List.{List, []}
 use mathlib.Core.Option.{Option, none, some}
 use Prim.Native.Nat.{ℕ, _+_, _≤_}
 use lib.Dec.{ltb}
 use lib.ListN.{length}
-use Rattle.numbers.specs.Reading.{Reader, give, _>>=_}
+use Rattle.numbers.specs.Reading.{Res, Reader, someAt, noneAt, give, _>>=_}
 use Rattle.numbers.specs.Compressed.{uint}
+use Rattle.numbers.specs.declared.Uint.{Uint}
+use Rattle.numbers.specs.declared.Uint.the-variants.{Number, NoNumber}
 use Rattle.numbers.specs.Parts.{part}
 use Rattle.buffers.specs.Texts.{Text}
 use Rattle.record.specs.View.{View}
@@ -16,6 +19,11 @@ use Rattle.sig_leaves.specs.declared.Owner.{Owner}
 use Rattle.sig_leaves.specs.declared.Owner.the-variants.{Of, Nobody}
 use Rattle.sig_leaves.specs.declared.Blob.{Blob}
 use Rattle.sig_leaves.specs.declared.Blob.the-variants.{At, Missing}
+
+-- An answer of the code, refused above a bound.
+abbrev pub bounded : ℕ → Uint → Res ℕ
+bounded most (Number n next) = cond (ltb most n) (noneAt next) (someAt n next)
+bounded most (NoNumber next) = noneAt next
 
 -- A compressed number, refused above a bound.
 unfoldable pub upTo : ℕ → Reader ℕ

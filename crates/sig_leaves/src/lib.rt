@@ -17,7 +17,7 @@ ghost use Rattle.record.specs.Types.{simple, methodStart, generic};
 ghost use Rattle.record.specs.Names.{nameAt, specBlob};
 ghost use Rattle.rows.specs.Layout.{Laid, rowsAt, cell, viewIn};
 ghost use Rattle.rendering.specs.Rendered.{Rendered};
-ghost use Rattle.sig_leaves.specs.Leaves.{upTo, argumentCount, genericsOf, BlobIs};
+ghost use Rattle.sig_leaves.specs.Leaves.{bounded, upTo, argumentCount, genericsOf, BlobIs};
 
 // The levels of a signature: the level starts at 0, and one above 16 refuses.
 pub const LEVELS: usize = 17;
@@ -67,11 +67,11 @@ pub fn push_simple(buf: &mut [u8], at: usize, tag: u8) -> Place
     }
 }
 
-// A compressed number, refused above a bound.
-fn read_up_to(sig: &[u8], pos: usize, most: u32) -> Uint
-    ensures { λ r. ⌜ uintSays r ≡ upTo most (now (sig .entry)) pos ⌝ }
+// A number that was read, refused above a bound.
+fn at_most(u: Uint, most: u32) -> Uint
+    ensures { λ r. ⌜ uintSays r ≡ bounded most u ⌝ }
 {
-    match numbers::read_uint(sig, pos) {
+    match u {
         Uint::Number(n, next) => {
             if most < n {
                 return Uint::NoNumber(next);
@@ -80,6 +80,13 @@ fn read_up_to(sig: &[u8], pos: usize, most: u32) -> Uint
         }
         Uint::NoNumber(next) => Uint::NoNumber(next),
     }
+}
+
+// A compressed number, refused above a bound.
+fn read_up_to(sig: &[u8], pos: usize, most: u32) -> Uint
+    ensures { λ r. ⌜ uintSays r ≡ upTo most (now (sig .entry)) pos ⌝ }
+{
+    at_most(sig_reader::read_number(sig, pos), most)
 }
 
 // The number of parameters in a method's signature (II.23.2.1): it stands after the flags, and after a generic count where these say so.
@@ -93,10 +100,7 @@ pub fn read_method_start(sig: &[u8], pos: usize) -> Uint
     if flags / 0x10 % 2 != 1 {
         return read_up_to(sig, pos + 1, 2000);
     }
-    match numbers::read_uint(sig, pos + 1) {
-        Uint::Number(_, next) => read_up_to(sig, next, 2000),
-        Uint::NoNumber(next) => Uint::NoNumber(next),
-    }
+    at_most(sig_reader::read_next_number(sig, pos + 1), 2000)
 }
 
 // The number of arguments of a generic type (II.23.2.12).
