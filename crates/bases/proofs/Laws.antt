@@ -4,13 +4,13 @@ use mathlib.Core.Bool.{Bool, true, false, cond, true≢false}
 use mathlib.Core.List.{List, [], _∷_, _++_, map, map-append, append-nil}
 use mathlib.Core.Option.{Option, none, some}
 use Prim.Native.Nat.{ℕ, zero, suc, _+_, _-_, _*_, _≤_, _<_}
-use native.Mathlib.Nat.{le-of-suc-le-suc, not-suc-le-zero}
 use native.Mathlib.Numerals.{add-one}
 use native.Mathlib.Omega.{arith}
 use borrow.Author.Tests.{eq-eqb, ne-eqb}
 use lib.Dec.{eqb}
 use lib.ListN.{length, getElem?, length-append}
 use Rattle.numbers.specs.Lists.{tabulate}
+use Rattle.numbers.proofs.Lists.{item-seam, item-past}
 use Rattle.buffers.specs.Texts.{Text}
 use Rattle.buffers.specs.Writes.{Kept, Said, missing, written}
 use Rattle.buffers.proofs.Writing.{kept-same, said-some, said-none}
@@ -47,15 +47,6 @@ tabulate-split f j (suc i) n =
     let a : suc i + n ≡ suc (i + n) = omega arith in
     let b : j + suc i ≡ j + 1 + i = omega arith in
     rw (a, b) (ap (λ l. f j ∷ l) (tabulate-split f (j + 1) i n))
-
-item-seam : {A : Type 0} (l : List A) (x : A) (rest : List A) → getElem? (l ++ x ∷ rest) (length l) ≡ some x
-item-seam [] x rest = refl
-item-seam (y ∷ l) x rest = item-seam l x rest
-
-item-past : {A : Type 0} (l : List A) (i : ℕ) → length l ≤ i → getElem? l i ≡ none
-item-past [] i h = refl
-item-past (y ∷ l) zero h = absurd (not-suc-le-zero h)
-item-past (y ∷ l) (suc i) h = item-past l i (le-of-suc-le-suc h)
 
 present-cons : {A : Type 0} (o : Option A) (l m : List (Option A)) → present l ≡ present m → present (o ∷ l) ≡ present (o ∷ m)
 present-cons none l m e = e

@@ -5,17 +5,17 @@ use mathlib.Core.Bool.{Bool, true, false, cond}
 use mathlib.Core.List.{List, [], _∷_, _++_}
 use mathlib.Core.Option.{Option, none, some}
 use Prim.Native.Nat.{ℕ, zero, suc, _+_, _≤_, _<_}
-use native.Mathlib.Nat.{le-of-suc-le-suc, not-suc-le-zero}
 use native.Mathlib.Numerals.{add-one}
 use native.Mathlib.Omega.{arith}
 use borrow.Author.Tests.{eq-eqb, ne-eqb}
 use lib.Dec.{eqb}
 use lib.ListN.{length, getElem?, length-append}
+use Rattle.numbers.proofs.Lists.{item-seam, item-past}
 use Rattle.buffers.specs.Texts.{Text}
 use Rattle.heaps.specs.Lookups.{string}
 use Rattle.tables.specs.Extents.{sizesIn}
 use Rattle.record.specs.Rows.{ofKey}
-use Rattle.record.specs.Columns.{column, genericName, implInterface}
+use Rattle.record.specs.Columns.{column, genericName}
 use Rattle.record.specs.View.{viewOf, sideRow, sideRows}
 use Rattle.record.proofs.Keyed.{cut}
 use Rattle.layouts.specs.Read.{readColumn}
@@ -42,15 +42,6 @@ none-seen f k = refl
 
 pub all-seen : (f : ℕ → ℕ) (k i n : ℕ) {seen : ℕ} → i ≡ n → seen ≡ keyed f k i → seen ≡ keyed f k n
 all-seen f k i n e s = s ∙ ap (keyed f k) e
-
-item-seam : {B : Type 0} (l : List B) (x : B) (rest : List B) → getElem? (l ++ x ∷ rest) (length l) ≡ some x
-item-seam [] x rest = refl
-item-seam (y ∷ l) x rest = item-seam l x rest
-
-item-past : {B : Type 0} (l : List B) (i : ℕ) → length l ≤ i → getElem? l i ≡ none
-item-past [] i h = refl
-item-past (y ∷ l) zero h = absurd (not-suc-le-zero h)
-item-past (y ∷ l) (suc i) h = item-past l i (le-of-suc-le-suc h)
 
 -- ---- The list of a key, of any table
 
@@ -137,38 +128,3 @@ module _ {t l : List ℕ} (laid : Laid t l) (strings blob : List ℕ) (k : ℕ) 
 
   pub generics-missed : (nth : ℕ) {r : Row} → Finds nth r → r ≡ NoRow → getElem? names nth ≡ none
   generics-missed nth h e = generics-past nth (subst (Finds nth) e h)
-
--- ---- The Interface columns of a class, by the view
-
-module _ {t l : List ℕ} (laid : Laid t l) (strings blob : List ℕ) (k : ℕ) where
-  abbrev impls : List ℕ
-  impls = viewIn t l strings blob .interfaces k
-
-  abbrev implAt : List ℕ → ℕ
-  implAt r = implInterface (sizesIn (optionsIn l) (headerIn t l)) r
-
-  -- What a search among the classes finds.
-  abbrev FindsImpl : ℕ → Row → Type 0
-  FindsImpl = FoundIs (cell t l 12) k (rowsAt l 12)
-
-  pub interfaces-count : length impls ≡ keyed (cell t l 12) k (rowsAt l 12)
-  unfolding viewOf
-  interfaces-count = listed-count laid 12 (omega arith) implAt k
-
-  pub interfaces-item : (nth i : ℕ) → FindsImpl nth (At i) → (i < rowsAt l 13) × (getElem? impls nth ≡ some (cell t l 13 i))
-  unfolding viewOf
-  interfaces-item nth i h =
-      let a = rows-at laid 12 (omega arith) in
-      let b = rows-at laid 13 (omega arith) in
-      (omega arith, listed-item laid 12 (omega arith) implAt k nth i h)
-
-  pub interfaces-past : (nth : ℕ) → FindsImpl nth NoRow → getElem? impls nth ≡ none
-  unfolding viewOf
-  interfaces-past nth h = listed-past laid 12 (omega arith) implAt k nth h
-
-  -- The same of an answer that was matched.
-  pub interfaces-found : (nth i : ℕ) {r : Row} → FindsImpl nth r → r ≡ At i → (i < rowsAt l 13) × (getElem? impls nth ≡ some (cell t l 13 i))
-  interfaces-found nth i h e = interfaces-item nth i (subst (FindsImpl nth) e h)
-
-  pub interfaces-missed : (nth : ℕ) {r : Row} → FindsImpl nth r → r ≡ NoRow → getElem? impls nth ≡ none
-  interfaces-missed nth h e = interfaces-past nth (subst (FindsImpl nth) e h)

@@ -1,5 +1,5 @@
-// Rows of a table by the value of a key column, in their order: the rows of GenericParam (ECMA-335 II.22.20) that have an Owner,
-// those of InterfaceImpl (II.22.23) that have a Class. The rows need not be sorted by the key.
+// Rows of a table by the value of a key column, in their order, as the rows of GenericParam (ECMA-335 II.22.20) that have an Owner. The
+// rows need not be sorted by the key.
 ghost use mathlib.Core.Path.{_≡_};
 ghost use Prim.Native.Nat.{_<_};
 ghost use Rattle.rows.specs.Layout.{Laid, rowsAt, cell};

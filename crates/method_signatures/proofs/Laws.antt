@@ -2,7 +2,7 @@
 -- reading stands. Assumes nothing.
 use mathlib.Core.Path.{_≡_, refl, sym, ap, subst, _∙_}
 use mathlib.Core.Bool.{Bool, true, false, cond, _&&_}
-use mathlib.Core.List.{List, [], _∷_}
+use mathlib.Core.List.{List}
 use mathlib.Core.Option.{Option, none, some}
 use Prim.Native.Nat.{ℕ, zero, suc, _+_, _-_, _*_, _≤_, _<_}
 use native.Mathlib.Nat.{sub-zero}
@@ -11,13 +11,12 @@ use borrow.Author.Tests.{eq-eqb, ne-eqb, le-leb, lt-leb, lt-ltb, le-ltb}
 use lib.Dec.{leb, ltb}
 use lib.ListN.{length, getElem?}
 use Rattle.numbers.specs.Lists.{tabulate}
-use Rattle.numbers.specs.Reading.{Res, Reader, someAt, noneAt}
+use Rattle.numbers.specs.Reading.{Reader, someAt, noneAt}
 use Rattle.numbers.specs.Compressed.{uintSays}
 use Rattle.numbers.specs.Parts.{part}
 use Rattle.numbers.specs.declared.Uint.{Uint}
 use Rattle.numbers.specs.declared.Uint.the-variants.{Number, NoNumber}
 use Rattle.buffers.specs.Texts.{Text}
-use Rattle.buffers.specs.Writes.{Kept, Wrote}
 use Rattle.heaps.specs.Lookups.{blobAt, blob}
 use Rattle.heaps.specs.declared.Absence.{Absence}
 use Rattle.heaps.specs.declared.Part.{Part}
@@ -40,7 +39,7 @@ use Rattle.rendering.proofs.Laws.{rendered-done, rendered-failed}
 use Rattle.sig_leaves.specs.declared.Owner.the-variants.{Of}
 use Rattle.sig_leaves.proofs.Specs.{blob-some, blob-absent}
 use Rattle.signatures.specs.Environment.{envIn}
-use Rattle.method_signatures.specs.Signatures.{typeBy, typesFrom, behind, readWithin, ReadingIs, read, missing}
+use Rattle.method_signatures.specs.Signatures.{typesFrom, behind, readWithin, ReadingIs, read, missing}
 use Rattle.method_signatures.specs.declared.Reading.{Reading}
 use Rattle.method_signatures.specs.declared.Reading.the-variants.{Read, Missing}
 

@@ -1,6 +1,5 @@
 -- What a reading of a method's signature says of the method: its return type and its parameters. Assumes nothing.
 use mathlib.Core.Path.{_≡_, refl, sym, ap, subst, _∙_}
-use mathlib.Core.Bool.{cond}
 use mathlib.Core.List.{List, [], _∷_, _++_}
 use mathlib.Core.Option.{Option, none, some}
 use Prim.Native.Nat.{ℕ, zero, suc, _+_, _-_, _≤_, _<_}
@@ -40,7 +39,7 @@ use Rattle.rendering.specs.Rendered.{Rendered}
 use Rattle.rendering.specs.declared.Rendering.{Rendering}
 use Rattle.rendering.specs.declared.Rendering.the-variants.{Done, Failed}
 use Rattle.rendering.proofs.Laws.{rendered-done, rendered-failed}
-use Rattle.method_signatures.specs.Signatures.{typeBy, typesFrom, behind, ReadingIs, read, missing as unread}
+use Rattle.method_signatures.specs.Signatures.{typeBy, typesFrom, behind, ReadingIs, read}
 use Rattle.method_signatures.specs.declared.Reading.{Reading}
 use Rattle.method_signatures.specs.declared.Reading.the-variants.{Read, Missing}
 use Rattle.method_signatures.proofs.Laws.{type-at, types-past, types-length, reading-missed}

@@ -40,12 +40,9 @@ unfolding fullName
 bare none = refl
 bare (some s) = refl
 
--- A text that was written, or that is missing.
+-- A text that was written.
 said-text : {b b′ : List ℕ} {at at′ : ℕ} {o : Option Text} (m : Text) → o ≡ some m → Wrote b at m b′ at′ → Said b at b′ o (some at′)
 said-text m e w = rw e (written w)
-
-pub said-missing : {b b′ : List ℕ} {at : ℕ} {o : Option Text} → o ≡ none → Kept b at b′ → Said b at b′ o none
-said-missing e k = rw e (missing k)
 
 -- A name that was written behind its front, or that does not fit, by itself or with the front.
 module _ {b b′ : List ℕ} {at : ℕ} (t l strings : List ℕ) (r : ℕ) {m m′ : Text} (e : m ≡ m′) where

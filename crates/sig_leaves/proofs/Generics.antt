@@ -15,7 +15,7 @@ use Rattle.buffers.specs.Texts.{Text}
 use Rattle.buffers.specs.Writes.{Kept, Wrote, Said, missing, written, placeSays}
 use Rattle.buffers.specs.declared.Place.{Place}
 use Rattle.buffers.specs.declared.Place.the-variants.{Next, Missing}
-use Rattle.buffers.proofs.Writing.{said-some, said-none}
+use Rattle.buffers.proofs.Writing.{said-some, said-none, said-missing}
 use Rattle.heaps.specs.Lookups.{stringAt, string}
 use Rattle.heaps.specs.declared.Absence.{Absence}
 use Rattle.heaps.specs.declared.Part.{Part}
@@ -36,10 +36,6 @@ use Rattle.rendering.proofs.Laws.{rendered-none}
 use Rattle.sig_leaves.specs.Leaves.{genericsOf}
 use Rattle.sig_leaves.specs.declared.Owner.{Owner}
 use Rattle.sig_leaves.specs.declared.Owner.the-variants.{Of, Nobody}
-
--- A text that is missing.
-pub said-missing : {b b′ : List ℕ} {at : ℕ} {o : Option Text} → o ≡ none → Kept b at b′ → Said b at b′ o none
-said-missing e k = rw e (missing k)
 
 -- A string that was looked up.
 module _ {b b′ : List ℕ} {at : ℕ} {p : Part} where

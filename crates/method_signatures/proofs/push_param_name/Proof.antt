@@ -1,8 +1,6 @@
-use mathlib.Core.Path.{refl}
 use native.Mathlib.Omega.{arith}
 use Rattle.buffers.specs.Writes.{written}
-use Rattle.buffers.proofs.Writing.{kept-same, wrote-then}
-use Rattle.sig_leaves.proofs.Generics.{said-missing}
+use Rattle.buffers.proofs.Writing.{kept-same, wrote-then, said-missing}
 use Rattle.method_signatures.proofs.Values.{name-missing, name-numbered, said-param, said-no-param}
 use borrow.Author.Needs.{needs}
 use Rattle.method_signatures.proofs.push_param_name.Statement.{statement}

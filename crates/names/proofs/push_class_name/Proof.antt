@@ -1,7 +1,7 @@
 use borrow.Author.Needs.{needs}
-use Rattle.buffers.proofs.Writing.{kept-same}
+use Rattle.buffers.proofs.Writing.{kept-same, said-missing}
 use Rattle.names.proofs.Leaves.{shown-at, shown-missing}
-use Rattle.names.proofs.Full.{said-class, said-missing, class-bare}
+use Rattle.names.proofs.Full.{said-class, class-bare}
 use Rattle.names.proofs.push_class_name.Statement.{statement}
 use Rattle.names.proofs.push_class_name.Tie as tie
 use Rattle.names.proofs.push_class_name.Reads as reads

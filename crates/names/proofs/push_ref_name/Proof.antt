@@ -3,10 +3,10 @@ use native.Mathlib.Omega.{arith}
 use borrow.Author.Needs.{needs}
 use Rattle.numbers.proofs.Parts.{cut-is}
 use Rattle.heaps.proofs.Lookups.{string-within}
-use Rattle.buffers.proofs.Writing.{kept-same}
+use Rattle.buffers.proofs.Writing.{kept-same, said-missing}
 use Rattle.rows.proofs.Laws.{same-rows}
 use Rattle.names.proofs.Leaves.{cut-part}
-use Rattle.names.proofs.Full.{said-missing, ref-null, ref-past, ref-bare, said-ref}
+use Rattle.names.proofs.Full.{ref-null, ref-past, ref-bare, said-ref}
 use Rattle.names.proofs.push_ref_name.Statement.{statement}
 use Rattle.names.proofs.push_ref_name.Tie as tie
 use Rattle.names.proofs.push_ref_name.Reads as reads

@@ -1,8 +1,7 @@
 use Rattle.buffers.specs.Writes.{written}
-use Rattle.buffers.proofs.Writing.{kept-same}
+use Rattle.buffers.proofs.Writing.{kept-same, said-missing}
 use Rattle.record.specs.Types.{look, names, simple}
 use Rattle.sig_leaves.proofs.Simple.{simple-none}
-use Rattle.sig_leaves.proofs.Generics.{said-missing}
 use borrow.Author.Needs.{needs}
 use Rattle.sig_leaves.proofs.push_simple.Statement.{statement}
 use Rattle.sig_leaves.proofs.push_simple.Tie as tie

@@ -2,10 +2,9 @@ use Prim.Native.Nat.{ℕ}
 use native.Mathlib.Omega.{arith}
 use borrow.Author.Needs.{needs}
 use Rattle.numbers.proofs.Parts.{cut-is}
-use Rattle.buffers.proofs.Writing.{kept-same}
+use Rattle.buffers.proofs.Writing.{kept-same, said-missing}
 use Rattle.record.specs.Types.{type}
 use Rattle.rendering.proofs.Laws.{rendered-done, rendered-failed}
-use Rattle.sig_leaves.proofs.Generics.{said-missing}
 use Rattle.sig_leaves.proofs.Specs.{blob-there, blob-missing}
 use Rattle.signatures.specs.Environment.{envIn, envOf}
 use Rattle.signatures.proofs.Forms as forms
