@@ -14,7 +14,32 @@ use Rattle.header.specs.declared.Opened.{Opened}
 use Rattle.header.specs.declared.Opened.the-variants.{Refused, Ready}
 use Rattle.record.specs.View.{view}
 use Rattle.rows.specs.Layout.{layoutOf, optionsIn, Laid, viewIn}
-use Rattle.opening.specs.Opening.{OpenedAs}
+use Rattle.opening.specs.Opening.{OpenedAs, Unmarked}
+
+-- The layout of a stream that was opened: it says the options, and holds no mark.
+flag-is : (b : Bool) → eqb (cond b 1 0) 1 ≡ b
+flag-is true = refl
+flag-is false = refl
+
+opened-options : (o : Options) (h : Header) (n : ℕ) → optionsIn (layoutOf o h n) ≡ o
+unfolding optionsIn layoutOf
+opened-options o h n = rw (flag-is (o .security))
+
+module _ (o : Options) (t : List ℕ) {l : List ℕ} (u : Unmarked (layoutOf o (opened o t) (length t)) l) where
+  said : optionsIn l ≡ o
+  unfolding optionsIn
+  said =
+      let same = opened-options o (opened o t) (length t) in
+      rw (u .same 76 (omega arith), u .same 77 (omega arith)) same
+
+  fresh : opened o t .answer ≡ Ready → o .limit < 4_294_967_296 → Laid t l
+  fresh r n =
+      record {
+        ready = rw said r;
+        narrow = rw said n;
+        is = rw said (u .same);
+        marked = λ c k m. absurd (omega (arith, u .none c k));
+      }
 
 -- The answer of opening, by what the code finds.
 module _ {o : Options} {t : List ℕ} {h : Header} (e : h ≡ opened o t) where
@@ -22,40 +47,23 @@ module _ {o : Options} {t : List ℕ} {h : Header} (e : h ≡ opened o t) where
   is-refused f g =
       record {
         answer = g ∙ sym f ∙ ap (λ (x : Header). x .answer) e;
-        layout = λ r. let z : _≡_ {A = ℕ} 0 1 = cc in absurd (omega arith);
-        narrow = λ r. let z : _≡_ {A = ℕ} 0 1 = cc in absurd (omega arith);
+        laid = λ r. let z : _≡_ {A = ℕ} 0 1 = cc in absurd (omega arith);
+        options = λ r. let z : _≡_ {A = ℕ} 0 1 = cc in absurd (omega arith);
       }
 
   pub is-ready : {l : List ℕ} → h .answer ≡ Ready
-      → l ≡ layoutOf o (record { answer = Ready; heap = h .heap; first = h .first; counts = h .counts }) (length t) → o .limit < 4_294_967_296
+      → Unmarked (layoutOf o (record { answer = Ready; heap = h .heap; first = h .first; counts = h .counts }) (length t)) l → o .limit < 4_294_967_296
       → OpenedAs o t Ready l
   is-ready {l} f g n =
       let same : record { answer = Ready; heap = h .heap; first = h .first; counts = h .counts } ≡ opened o t = rw (← f) e in
-      record {
-        answer = sym f ∙ ap (λ (x : Header). x .answer) e;
-        layout = λ r. g ∙ ap (λ (x : Header). layoutOf o x (length t)) same;
-        narrow = λ r. n;
-      }
+      let is : opened o t .answer ≡ Ready = ap (λ (x : Header). x .answer) (sym e) ∙ f in
+      let all : Unmarked (layoutOf o (opened o t) (length t)) l = rw same at g in
+      record { answer = sym is; laid = λ _. fresh o t all is n; options = λ _. said o t all }
 
-flag-is : (b : Bool) → eqb (cond b 1 0) 1 ≡ b
-flag-is true = refl
-flag-is false = refl
-
-pub opened-options : (o : Options) (h : Header) (n : ℕ) → optionsIn (layoutOf o h n) ≡ o
-unfolding optionsIn layoutOf
-opened-options o h n = rw (flag-is (o .security))
-
+-- What the calls cite of it.
 module _ {o : Options} {t : List ℕ} {a : Opened} {l : List ℕ} (c : OpenedAs o t a l) (r : a ≡ Ready) where
-  said : optionsIn l ≡ o
-  said = rw (c .layout r) (opened-options o (opened o t) (length t))
-
   pub opened-laid : Laid t l
-  opened-laid =
-      record {
-        ready = rw said (sym (c .answer) ∙ r);
-        narrow = rw said (c .narrow r);
-        is = rw said (c .layout r);
-      }
+  opened-laid = c .laid r
 
   pub opened-view : (strings blob : List ℕ) → viewIn t l strings blob ≡ view o t strings blob
-  opened-view strings blob = rw said
+  opened-view strings blob = rw (c .options r)

@@ -9,8 +9,8 @@ use native.Mathlib.Omega.{arith}
 use borrow.Author.Count.{below-more}
 use borrow.Author.Tests.{eq-eqb, ne-eqb}
 use lib.Dec.{eqb}
-use lib.ListN.{length, getD, set, length-set, replicate}
-use lib.Seq.{ext-getD, getD-set-same, getD-set-other}
+use lib.ListN.{length, getD, set, length-set, replicate, getD-replicate}
+use lib.Seq.{getD-set-same, getD-set-other}
 use Rattle.header.specs.declared.Options.{Options}
 use Rattle.header.specs.declared.Header.{Header}
 use Rattle.layouts.specs.declared.IndexSizes.{IndexSizes}
@@ -20,6 +20,7 @@ use Rattle.layouts.proofs.Codes.{made-at}
 use Rattle.tables.specs.Extents.{Walked, walkSays, walkReply, extent, onlyEntire, keptRows, sizesIn}
 use Rattle.tables.specs.declared.Extents.{Extents}
 use Rattle.rows.specs.Layout.{columnNumbers, allNumbers, layoutOf}
+use Rattle.opening.specs.Opening.{Unmarked}
 
 -- The rows that are kept, by what the code tests.
 pub kept-entire : (k rows count : ℕ) → rows ≡ count → rows ≡ cond (onlyEntire k && not (eqb rows count)) 0 rows
@@ -35,13 +36,14 @@ kept-none k rows count ne e f = rw (ne-eqb rows count ne, ← e, f)
 pub kept-others : (k rows count : ℕ) {b : Bool} → b ≡ onlyEntire k → b ≡ false → rows ≡ cond (onlyEntire k && not (eqb rows count)) 0 rows
 kept-others k rows count e f = rw (← e, f)
 
--- The first m numbers of l are those of the layout `all`.
+-- The first m numbers of l are those of the layout `all`, and the others are 0.
 pub record Filled (all l : List ℕ) (m : ℕ) : Type 0 where
-  pub long : length l ≡ 78
+  pub long : length l ≡ 97
   pub same : (j : ℕ) → j < m → getD l j 0 ≡ getD all j 0
+  pub unset : (j : ℕ) → m ≤ j → j < 97 → getD l j 0 ≡ 0
 
-pub empty : (all : List ℕ) → Filled all (replicate 78 0) 0
-empty all = record { long = refl; same = λ j h. absurd (not-suc-le-zero h) }
+pub empty : (all : List ℕ) → Filled all (replicate 97 0) 0
+empty all = record { long = refl; same = λ j h. absurd (not-suc-le-zero h); unset = λ j h k. getD-replicate 97 j 0 0 k }
 
 pub put : {all l : List ℕ} {m : ℕ} → Filled all l m → m < 78 → (v : ℕ) → v ≡ getD all m 0 → Filled all (set l m v) (m + 1)
 put {all} {l} {m} f h v e =
@@ -50,6 +52,7 @@ put {all} {l} {m} f h v e =
       same =
           below-more _ _ (λ j a. getD-set-other l m j v 0 (λ r. omega arith) ∙ f .same j a)
           (getD-set-same l m v 0 (omega (arith, f .long)) ∙ e);
+      unset = λ j a b. getD-set-other l m j v 0 (λ r. omega arith) ∙ f .unset j (omega arith) b;
     }
 
 pub turn : {all l : List ℕ} {c : ℕ} → Filled all l (4 * c) → c < 19 → {v0 v1 v2 v3 : ℕ}
@@ -98,12 +101,12 @@ module _ (o : Options) (h : Header) (n : ℕ) where
 
   -- All turns are done, and the options are stored.
   pub whole : {l : List ℕ} {c v w : ℕ} → Filled (layoutOf o h n) l (4 * c) → c ≤ 19 → 19 ≤ c → v ≡ o .limit → w ≡ cond (o .security) 1 0
-      → set (set l 76 v) 77 w ≡ layoutOf o h n
+      → Unmarked (layoutOf o h n) (set (set l 76 v) 77 w)
   unfolding layoutOf
   whole {l} {c} {v} {w} f p q e g =
       let z : 4 * c ≡ 76 = omega arith in
       let a = put (put (rw z at f) (omega arith) v e) (omega arith) w g in
-      ext-getD 0 (set (set l 76 v) 77 w) (layoutOf o h n) (a .long) (λ k d. a .same k (omega (arith, a .long)))
+      record { same = a .same; none = λ k d. a .unset (78 + k) (omega arith) (omega arith) }
 
   -- The four numbers of a column, as the code has them.
   module _ (r : Extents) (e : walkSays r ≡ walkReply o h n) (c k : ℕ) (l : c < 19) (ek : k ≡ readColumn c .kind) where

@@ -2,15 +2,20 @@
 use mathlib.Core.Path.{_≡_}
 use mathlib.Core.List.{List}
 use Prim.Native.Nat.{ℕ, _<_}
-use lib.ListN.{length}
+use lib.ListN.{getD}
 use Rattle.header.specs.Opening.{opened}
 use Rattle.header.specs.declared.Options.{Options}
 use Rattle.header.specs.declared.Opened.{Opened}
 use Rattle.header.specs.declared.Opened.the-variants.{Ready}
-use Rattle.rows.specs.Layout.{layoutOf}
+use Rattle.rows.specs.Layout.{Laid, optionsIn, markAt}
 
--- Opening the tables stream t by the options o, whose limit has 32 bits, gives the answer a, and the layout l unless it is refused.
+-- Opening the tables stream t by the options o gives the answer a, and unless it is refused the layout l, which says the options.
 pub record OpenedAs (o : Options) (t : List ℕ) (a : Opened) (l : List ℕ) : Type 0 where
   pub answer : a ≡ opened o t .answer
-  pub layout : a ≡ Ready → l ≡ layoutOf o (opened o t) (length t)
-  pub narrow : a ≡ Ready → o .limit < 4_294_967_296
+  pub laid : a ≡ Ready → Laid t l
+  pub options : a ≡ Ready → optionsIn l ≡ o
+
+-- l begins with these numbers, those of a layout, and has no mark.
+pub record Unmarked (numbers l : List ℕ) : Type 0 where
+  pub same : (i : ℕ) → i < 78 → getD l i 0 ≡ getD numbers i 0
+  pub none : (c : ℕ) → c < 19 → markAt l c ≡ 0

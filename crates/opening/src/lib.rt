@@ -10,7 +10,7 @@ ghost use lib.Dec.{eqb};
 ghost use Rattle.header.specs.declared.Opened.the-variants.{Refused, Ready};
 ghost use Rattle.tables.specs.Extents.{onlyEntire};
 ghost use Rattle.rows.specs.Layout.{layoutOf};
-ghost use Rattle.opening.specs.Opening.{OpenedAs};
+ghost use Rattle.opening.specs.Opening.{OpenedAs, Unmarked};
 
 // The tables that are kept only entire.
 // II.22.38
@@ -77,7 +77,7 @@ fn kept_rows(kind: usize, rows: u32, count: u32) -> usize
 // The layout of a stream of that length, opened with these options, with what its header says.
 fn lay(len: usize, first: usize, heap: u8, counts: &[u32; 64], options: Options) -> Layout
     requires { ⌜ (first ≤ len) × (len < 9223372036854775808) ⌝ }
-    ensures { λ r. ⌜ (r ≡ layoutOf options (record { answer = Ready; heap = heap; first = first; counts = now (counts .entry) }) len) × (options .limit < 4294967296) ⌝ }
+    ensures { λ r. ⌜ (Unmarked (layoutOf options (record { answer = Ready; heap = heap; first = first; counts = now (counts .entry) }) len) r) × (options .limit < 4294967296) ⌝ }
 {
     let security = options.security;
     let sizes = layouts::index_sizes(heap, counts, security);
@@ -85,7 +85,7 @@ fn lay(len: usize, first: usize, heap: u8, counts: &[u32; 64], options: Options)
     let starts = walk.starts;
     let steps = walk.sizes;
     let rows = walk.rows;
-    let mut layout = [0usize; 78];
+    let mut layout = [0usize; 97];
     for c in 0..19 {
         let kind = layouts::column_kind(c);
         let offset = layouts::column_offset(sizes, c);
@@ -105,7 +105,7 @@ fn refuse(why: Refusal) -> Opening
 {
     Opening {
         answer: Opened::Refused(why),
-        layout: [0; 78],
+        layout: [0; 97],
     }
 }
 

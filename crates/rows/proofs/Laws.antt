@@ -81,7 +81,7 @@ module _ {t l : List ℕ} (laid : Laid t l) where
 
   number-at : (c d : ℕ) → c < 19 → d < 4 → getD l (4 * c + d) 0 ≡ getD (columnNumbers o h (length t) (readColumn c)) d 0
   unfolding layoutOf
-  number-at c d k m = ap (λ (x : List ℕ). getD x (4 * c + d) 0) (laid .is) ∙ numbers-at o h (length t) readColumns (o .limit ∷ cond (o .security) 1 0 ∷ []) _ c d k m
+  number-at c d k m = laid .is (4 * c + d) (omega arith) ∙ numbers-at o h (length t) readColumns (o .limit ∷ cond (o .security) 1 0 ∷ []) _ c d k m
 
   first-at : (c : ℕ) → c < 19 → getD l (4 * c) 0 ≡ place o h t (readColumn c .kind) .start + offsetIn (sizesIn o h) (readColumn c)
   first-at c k = let e : 4 * c ≡ 4 * c + 0 = omega arith in ap (λ (x : ℕ). getD l x 0) e ∙ number-at c 0 k (omega arith)

@@ -1,9 +1,9 @@
 -- The layout: the numbers by which code reads the columns of the record's tables (ECMA-335 II.22) on demand. Opening makes it once, by
--- what the walk found; the code has it as an array.
+-- what the walk found; the code has it as an array. Behind these numbers stand marks, which say what is known of a column's order.
 use mathlib.Core.Path.{_≡_}
 use mathlib.Core.Bool.{cond}
 use mathlib.Core.List.{List, [], _∷_, _++_}
-use Prim.Native.Nat.{ℕ, _+_, _*_, _<_}
+use Prim.Native.Nat.{ℕ, _+_, _*_, _<_, _≤_}
 use lib.Dec.{eqb}
 use lib.ListN.{length, getD}
 use Rattle.header.specs.Opening.{opened}
@@ -51,11 +51,20 @@ cell t l c i =
     column (readColumn c .kind) (readColumn c .place) (sizesIn (optionsIn l) (headerIn t l))
     (rowBytes (place (optionsIn l) (headerIn t l) t (readColumn c .kind)) t i)
 
--- l is the layout of the tables stream t, which was opened and not refused. The limit of rows, an option, has 32 bits.
+-- No number of n rows is less than the one in the row before it.
+abbrev pub Ascends : (ℕ → ℕ) → ℕ → Type 0
+Ascends f n = (i : ℕ) → i + 1 < n → f i ≤ f (i + 1)
+
+-- The mark of column c: 1 where the column is known to ascend.
+abbrev pub markAt : List ℕ → ℕ → ℕ
+markAt l c = getD l (78 + c) 0
+
+-- l is the layout of the tables stream t, which was opened and not refused. The limit of rows, an option, has 32 bits. The marks are true.
 pub record Laid (t l : List ℕ) : Type 0 where
   pub ready : headerIn t l .answer ≡ Ready
   pub narrow : optionsIn l .limit < 4_294_967_296
-  pub is : l ≡ layoutOf (optionsIn l) (headerIn t l) (length t)
+  pub is : (i : ℕ) → i < 78 → getD l i 0 ≡ getD (layoutOf (optionsIn l) (headerIn t l) (length t)) i 0
+  pub marked : (c : ℕ) → c < 19 → markAt l c ≡ 1 → Ascends (cell t l c) (rowsAt l c)
 
 -- The view of a stream by its layout.
 abbrev pub viewIn : List ℕ → List ℕ → List ℕ → List ℕ → View

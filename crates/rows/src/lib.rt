@@ -10,8 +10,8 @@ ghost use Rattle.buffers.specs.Replies.{nameOr5, Named};
 ghost use Rattle.heaps.specs.Lookups.{stringAt, string};
 ghost use Rattle.rows.specs.Layout.{Laid, rowsAt, cell};
 
-// Four numbers for each of the 19 columns that are read, and the two options.
-pub type Layout = [usize; 78];
+// Four numbers for each of the 19 columns that are read, the two options, and a mark for each column: 1 where it is known to ascend.
+pub type Layout = [usize; 97];
 
 // How many rows of the table of a column are kept.
 pub fn count_rows(layout: &Layout, column: usize) -> usize
