@@ -4,7 +4,8 @@ use mathlib.Core.Path.{_≡_, refl, sym, ap, _∙_, subst}
 use mathlib.Core.Bool.{Bool, true, false, cond}
 use mathlib.Core.List.{List, [], _∷_, _++_}
 use mathlib.Core.Option.{Option, none, some}
-use Prim.Native.Nat.{ℕ, zero, suc, _+_, _≤_, _<_}
+use mathlib.Core.Logic.{_≢_, ⊎-elim}
+use Prim.Native.Nat.{ℕ, zero, suc, _+_, _-_, _≤_, _<_}
 use native.Mathlib.Numerals.{add-one}
 use native.Mathlib.Omega.{arith}
 use borrow.Author.Tests.{eq-eqb, ne-eqb}
@@ -19,9 +20,9 @@ use Rattle.record.specs.Columns.{column, genericName}
 use Rattle.record.specs.View.{viewOf, sideRow, sideRows}
 use Rattle.record.proofs.Keyed.{cut}
 use Rattle.layouts.specs.Read.{readColumn}
-use Rattle.rows.specs.Layout.{optionsIn, headerIn, rowsAt, cell, Laid, viewIn}
-use Rattle.rows.proofs.Laws.{rows-at}
-use Rattle.keys.specs.Keyed.{keyed, FoundIs}
+use Rattle.rows.specs.Layout.{optionsIn, headerIn, rowsAt, cell, Ascends, Laid, viewIn}
+use Rattle.rows.proofs.Laws.{rows-at, ascending, le-or-lt}
+use Rattle.keys.specs.Keyed.{keyed, FoundIs, SplitAt, OnlyIn}
 use Rattle.keys.specs.declared.Row.{Row}
 use Rattle.keys.specs.declared.Row.the-variants.{At, NoRow}
 
@@ -35,13 +36,90 @@ module _ (f : ℕ → ℕ) (k i : ℕ) {x seen : ℕ} (read : x ≡ f i) where
   unfolding keyed
   key-passed e s = rw (add-one i, ne-eqb (f i) k (λ q. e (read ∙ q))) s
 
--- Its start and its end.
-pub none-seen : (f : ℕ → ℕ) (k : ℕ) → 0 ≡ keyed f k 0
+-- Rows without the key add nothing.
+none-keyed : (f : ℕ → ℕ) (k a d : ℕ) → ((i : ℕ) → a ≤ i → i < a + d → f i ≢ k) → keyed f k (a + d) ≡ keyed f k a
 unfolding keyed
-none-seen f k = refl
+none-keyed f k a zero h = let e : a + 0 ≡ a = omega arith in ap (keyed f k) e
+none-keyed f k a (suc d) h =
+    let e : a + suc d ≡ suc (a + d) = omega arith in
+    rw (e, ne-eqb (f (a + d)) k (h (a + d) (omega arith) (omega arith))) (none-keyed f k a d (λ i l m. h i l (omega arith)))
 
-pub all-seen : (f : ℕ → ℕ) (k i n : ℕ) {seen : ℕ} → i ≡ n → seen ≡ keyed f k i → seen ≡ keyed f k n
-all-seen f k i n e s = s ∙ ap (keyed f k) e
+-- Its start and its end, among the rows that can have the key.
+module _ (f : ℕ → ℕ) (k n : ℕ) {first end : ℕ} (o : OnlyIn f k n first end) where
+  pub none-seen : 0 ≡ keyed f k first
+  unfolding keyed
+  none-seen =
+      let e : 0 + first ≡ first = omega arith in
+      sym (none-keyed f k 0 first (λ i l m. o .before i (omega arith))) ∙ ap (keyed f k) e
+
+  pub all-seen : (i : ℕ) {seen : ℕ} → i ≡ end → seen ≡ keyed f k i → seen ≡ keyed f k n
+  all-seen i e s =
+      let all : end + (n - end) ≡ n = omega (arith, o .within) in
+      s ∙ ap (keyed f k) e ∙ sym (none-keyed f k end (n - end) (λ i l m. o .behind i l (omega arith))) ∙ ap (keyed f k) all
+
+-- ---- Halving
+
+-- The rows before low have lesser keys than k, and those from high on have not.
+pub record Halving (f : ℕ → ℕ) (k n low high : ℕ) : Type 0 where
+  pub order : low ≤ high
+  pub within : high ≤ n
+  pub below : (i : ℕ) → i < low → f i < k
+  pub above : (i : ℕ) → high ≤ i → i < n → k ≤ f i
+
+module _ (f : ℕ → ℕ) (k n : ℕ) where
+  pub halve-start : {high : ℕ} → high ≡ n → Halving f k n 0 high
+  halve-start e = record { order = omega arith; within = omega arith; below = λ i h. absurd (omega arith); above = λ i h m. absurd (omega arith) }
+
+  pub halve-end : {low high : ℕ} → Halving f k n low high → high ≤ low → SplitAt f k n low
+  halve-end h e =
+      record { within = omega (arith, h .order, h .within); below = h .below; above = λ i l m. h .above i (omega (arith, h .order)) m }
+
+  -- The row in the middle has a lesser key, and so has every row before it; or it has not, and no row after it has.
+  module _ (a : Ascends f n) {low high : ℕ} (h : Halving f k n low high) (i : ℕ) (lo : low ≤ i) (hi : i < high) {x : ℕ} (read : x ≡ f i) where
+    pub halve-up : x < k → Halving f k n (i + 1) high
+    halve-up l =
+        record {
+          order = omega arith;
+          within = h .within;
+          below = λ j m.
+              let e : j + (i - j) ≡ i = omega arith in
+              let same : f (j + (i - j)) ≡ f i = ap f e in
+              omega (arith, ascending f n a j (i - j) (omega (arith, h .within)));
+          above = h .above;
+        }
+
+    pub halve-down : k ≤ x → Halving f k n low i
+    halve-down l =
+        record {
+          order = lo;
+          within = omega (arith, h .within);
+          below = h .below;
+          above = λ j m b.
+              let e : i + (j - i) ≡ j = omega arith in
+              let same : f (i + (j - i)) ≡ f j = ap f e in
+              omega (arith, ascending f n a i (j - i) (omega arith));
+        }
+
+-- ---- The rows of a key
+
+module _ (f : ℕ → ℕ) (k n : ℕ) where
+  pub in-rest : {first end : ℕ} → SplitAt f k n first → end ≡ n → OnlyIn f k n first end
+  in-rest s e =
+      record {
+        order = omega (arith, s .within);
+        within = omega arith;
+        before = λ i h q. omega (arith, s .below i h);
+        behind = λ i h m. absurd (omega arith);
+      }
+
+  pub in-split : {first end : ℕ} → SplitAt f k n first → SplitAt f (k + 1) n end → OnlyIn f k n first end
+  in-split {first} {end} s r =
+      record {
+        order = ⊎-elim (λ l. l) (λ l. absurd (omega (arith, s .below end l, r .above end (omega arith) (omega (arith, s .within))))) (le-or-lt first end);
+        within = r .within;
+        before = λ i h e. omega (arith, s .below i h);
+        behind = λ i h m e. omega (arith, r .above i h m);
+      }
 
 -- ---- The list of a key, of any table
 

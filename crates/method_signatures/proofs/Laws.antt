@@ -5,10 +5,11 @@ use mathlib.Core.Bool.{Bool, true, false, cond, _&&_}
 use mathlib.Core.List.{List}
 use mathlib.Core.Option.{Option, none, some}
 use Prim.Native.Nat.{ℕ, zero, suc, _+_, _-_, _*_, _≤_, _<_}
-use native.Mathlib.Nat.{sub-zero}
+use mathlib.Core.Logic.{⊎-elim}
+use native.Mathlib.Nat.{sub-zero, eq-zero-or-pos}
 use native.Mathlib.Omega.{arith}
 use borrow.Author.Tests.{eq-eqb, ne-eqb, le-leb, lt-leb, lt-ltb, le-ltb}
-use lib.Dec.{leb, ltb}
+use lib.Dec.{eqb, leb, ltb}
 use lib.ListN.{length, getElem?}
 use Rattle.numbers.specs.Lists.{tabulate}
 use Rattle.numbers.specs.Reading.{Reader, someAt, noneAt}
@@ -30,8 +31,9 @@ use Rattle.record.specs.Types.{Env, methodStart, type}
 use Rattle.record.specs.Names.{rowsIn, sizesOf, numberIn, classes, classRow, env, levels, classGenerics, methodGenerics}
 use Rattle.record.specs.Methods.{Signature, Pass, tries, signature, readBy, methodLists, handle, pass, signatureOf}
 use Rattle.record.proofs.Read.{class-row, method-row}
-use Rattle.rows.specs.Layout.{Laid, rowsAt, cell, optionsIn, viewIn}
+use Rattle.rows.specs.Layout.{Laid, Ascends, rowsAt, cell, optionsIn, viewIn}
 use Rattle.rows.proofs.Laws.{rows-at}
+use Rattle.keys.specs.Keyed.{SplitAt}
 use Rattle.rendering.specs.Rendered.{Rendered}
 use Rattle.rendering.specs.declared.Rendering.{Rendering}
 use Rattle.rendering.specs.declared.Rendering.the-variants.{Done, Failed}
@@ -39,7 +41,7 @@ use Rattle.rendering.proofs.Laws.{rendered-done, rendered-failed}
 use Rattle.sig_leaves.specs.declared.Owner.the-variants.{Of}
 use Rattle.sig_leaves.proofs.Specs.{blob-some, blob-absent}
 use Rattle.signatures.specs.Environment.{envIn}
-use Rattle.method_signatures.specs.Signatures.{typesFrom, behind, readWithin, ReadingIs, read, missing}
+use Rattle.method_signatures.specs.Signatures.{typesFrom, behind, readWithin, ReadFrom, ReadingIs, read, missing}
 use Rattle.method_signatures.specs.declared.Reading.{Reading}
 use Rattle.method_signatures.specs.declared.Reading.the-variants.{Read, Missing}
 
@@ -201,6 +203,11 @@ or-none : {A : Type 0} (a : Option A) → orElse a none ≡ a
 or-none none = refl
 or-none (some x) = refl
 
+not-read : (b c : Bool) (p : Pass) (e : ℕ) (r : Option Signature) → cond b p (record { end = e; read = cond (c && false) r (p .read) }) .read ≡ p .read
+not-read true c p e r = refl
+not-read false true p e r = refl
+not-read false false p e r = refl
+
 module _ (v : View) (m : ℕ) where
   -- The pass over the classes from c on.
   abbrev later : ℕ → Pass
@@ -210,9 +217,12 @@ module _ (v : View) (m : ℕ) where
   abbrev pub Standing : ℕ → ℕ → ℕ → Type 0
   Standing i c first = signatureOf v m ≡ orElse (readWithin v m c first (later i .end)) (later i .read)
 
-  pub stand-start : Standing 0 0 (m + 1)
+  pub from-all : ReadFrom v m 0
   unfolding signatureOf
-  stand-start = rw (within-before v m 0 (m + 1) (later 0 .end) (omega arith), sub-zero (classes v))
+  from-all = rw (sub-zero (classes v))
+
+  pub stand-from : (i : ℕ) → ReadFrom v m i → Standing i 0 (m + 1)
+  stand-from i h = rw (within-before v m 0 (m + 1) (later i .end) (omega arith)) h
 
   later-end : (i n : ℕ) → n ≡ 0 → pass v m i (methodLists v i n) ≡ record { end = rowsIn v methodDef; read = none }
   unfolding pass tabulate
@@ -240,6 +250,13 @@ module _ (v : View) (m : ℕ) where
     unfolding handle
     later-handle z = later-step ∙ rw (ne-eqb col 0 z)
 
+    -- A class whose methods end at or below m has no say.
+    passed-over : later (i + 1) .end ≤ m → later i .read ≡ later (i + 1) .read
+    unfolding handle
+    passed-over e =
+        ap (λ (p : Pass). p .read) later-step
+        ∙ rw (le-ltb m (later (i + 1) .end) e) (not-read (eqb col 0) (leb (col - 1) m) (later (i + 1)) (col - 1) _)
+
     module _ (c first : ℕ) (inv : Standing i c first) where
       pub stand-skip : col ≡ 0 → Standing (i + 1) c first
       stand-skip z = rw (later-skip z) at inv
@@ -256,6 +273,16 @@ module _ (v : View) (m : ℕ) where
         stand-next r =
             met ∙ ap (λ (o : Option Signature). orElse o (later i .read)) r ∙ ap (λ (p : Pass). p .read) (later-handle z)
             ∙ or-either (leb (col - 1) m && ltb m (later (i + 1) .end)) (readBy v m i) (later (i + 1) .read)
+
+  -- A class has no say if the next one begins at or below m, or if neither begins.
+  from-next : (i : ℕ) → i + 1 < classes v → {x y : ℕ} → x ≡ numberIn v methodList (classRow v i) → y ≡ numberIn v methodList (classRow v (i + 1))
+      → x ≤ y → y < m + 2 → ReadFrom v m i → ReadFrom v m (i + 1)
+  from-next i h {x} {y} ex ey up lo from =
+      ⊎-elim (λ z. from ∙ ap (λ (p : Pass). p .read) (later-skip i (omega arith) ex (omega arith)))
+      (λ z.
+      let begins : later (i + 1) .end ≡ y - 1 = ap (λ (p : Pass). p .end) (later-handle (i + 1) h ey (λ e. omega arith)) in
+      from ∙ passed-over i (omega arith) ex (omega arith))
+      (eq-zero-or-pos y)
 
   pub stand-end : (i c first : ℕ) → classes v ≤ i → Standing i c first → signatureOf v m ≡ readWithin v m c first (rowsIn v methodDef)
   stand-end i c first h inv =
@@ -301,3 +328,18 @@ module _ {t l : List ℕ} (laid : Laid t l) (strings heap : List ℕ) where
         let e : row - 1 ≡ row + 1 - 2 = omega arith in
         let next = stand-next w m (row - 1) is-class its-list c first inv n r in
         subst (λ (i : ℕ). Standing w m i (row + 1 - 2) (col - 1)) next-row (subst (λ (k : ℕ). Standing w m (row - 1 + 1) k (col - 1)) e next)
+
+  -- Where MethodList ascends: of the rows that begin at or below m the last is that of a class before which none has a say.
+  module _ (up : Ascends (cell t l 6) (rowsAt l 6)) (m : ℕ) where
+    column-of : (c : ℕ) → c < rowsAt l 6 - 1 → cell t l 6 (c + 1) ≡ numberIn (viewIn t l strings heap) methodList (classRow (viewIn t l strings heap) c)
+    unfolding viewOf
+    column-of c h =
+        sym (ap (numberIn (viewIn t l strings heap) methodList) (class-row (optionsIn l) t strings heap c (omega (arith, class-rows))))
+
+    pub from-begun : {n : ℕ} → SplitAt (cell t l 6) (m + 2) (rowsAt l 6) n → (c : ℕ) → c + 2 ≤ n → ReadFrom (viewIn t l strings heap) m c
+    from-begun s zero h = from-all (viewIn t l strings heap) m
+    from-begun s (suc c) h =
+        let one : suc c ≡ c + 1 = omega arith in
+        let next = from-next (viewIn t l strings heap) m c (omega (arith, class-rows, s .within)) (column-of c (omega (arith, s .within)))
+        (column-of (c + 1) (omega (arith, s .within))) (up (c + 1) (omega (arith, s .within))) (s .below (c + 1 + 1) (omega arith)) (from-begun s c (omega arith)) in
+        subst (ReadFrom (viewIn t l strings heap) m) (sym one) next

@@ -4,7 +4,7 @@ use mathlib.Core.Path.{_≡_}
 use mathlib.Core.Bool.{cond, _&&_}
 use mathlib.Core.List.{List, [], _∷_}
 use mathlib.Core.Option.{Option, none, some}
-use Prim.Native.Nat.{ℕ, zero, suc, _+_, _≤_}
+use Prim.Native.Nat.{ℕ, zero, suc, _+_, _-_, _≤_}
 use lib.Dec.{leb, ltb}
 use lib.ListN.{length}
 use Rattle.numbers.specs.Reading.{Reader}
@@ -13,8 +13,8 @@ use Rattle.buffers.specs.Texts.{Text}
 use Rattle.buffers.specs.Writes.{Wrote}
 use Rattle.record.specs.View.{View}
 use Rattle.record.specs.Types.{type}
-use Rattle.record.specs.Names.{env, levels, methodGenerics}
-use Rattle.record.specs.Methods.{Signature, readBy}
+use Rattle.record.specs.Names.{env, levels, classes, methodGenerics}
+use Rattle.record.specs.Methods.{Signature, readBy, methodLists, pass, signatureOf}
 use Rattle.method_signatures.specs.declared.Reading.{Reading}
 use Rattle.method_signatures.specs.declared.Reading.the-variants.{Read, Missing}
 
@@ -35,6 +35,10 @@ behind type (suc n) s at = behind type n s (type s at .next)
 -- What class c makes of method m's signature if it reads the methods from its first up to an end.
 unfoldable pub readWithin : View → ℕ → ℕ → ℕ → ℕ → Option Signature
 readWithin v m c first end = cond (leb first m && ltb m end) (readBy v m c) none
+
+-- The classes before c have no say in method m's signature: it is what the pass over the others makes of it.
+abbrev pub ReadFrom : View → ℕ → ℕ → Type 0
+ReadFrom v m c = signatureOf v m ≡ pass v m c (methodLists v c (classes v - c)) .read
 
 -- From the buffer b to b′, r is the reading d of method m's signature: the return type was written, and the parameters' types follow in
 -- that part of the blob heap, as that owner's class reads them; or there is no reading, and in the buffer may be anything.

@@ -22,7 +22,7 @@ ghost use Rattle.record.specs.Record.{method};
 ghost use Rattle.record.specs.Answers.{_⟫_, item};
 ghost use Rattle.rows.specs.Layout.{Laid, rowsAt, viewIn};
 ghost use Rattle.signatures.specs.Environment.{envIn};
-ghost use Rattle.method_signatures.specs.Signatures.{behind, readWithin, ReadingIs};
+ghost use Rattle.method_signatures.specs.Signatures.{behind, readWithin, ReadFrom, ReadingIs};
 
 // A method's signature as a class reads it: the class as an owner of generic parameters, where in the blob heap the signature stands, the
 // position behind the return type, the number of parameters, and the place behind the return type's text in the buffer.
@@ -115,6 +115,22 @@ fn read_within(
     read_by(buf, tables, strings, blob, layout, m, class)
 }
 
+// A class before which none reads method m. Where MethodList is known to ascend, that is the last whose first method lies at or below m;
+// rows, of which the first is no class, are counted by their column, from 1.
+fn first_reader(tables: &[u8], layout: &Layout, m: usize) -> usize
+    requires { ⌜ Laid (now tables) (now layout) ⌝ }
+    requires { ⌜ m < rowsAt (now layout) 9 ⌝ }
+    ensures { λ r. ⌜ (r < 4294967296) × ((strings blob : List ℕ) → ReadFrom (viewIn (now (tables .entry)) (now (layout .entry)) strings blob) m r) ⌝ }
+{
+    if rows::is_marked(layout, columns::METHOD_LIST) {
+        let begun = keys::count_below(tables, layout, columns::METHOD_LIST, m + 2);
+        if 2 <= begun {
+            return begun - 2;
+        }
+    }
+    0
+}
+
 // The signature of method m: of the classes that read it the lowest whose reading succeeds. A class reads from its first method up to that
 // of the next class whose MethodList column is not 0, so each is tried once that one is met.
 pub fn read_signature(
@@ -132,7 +148,7 @@ pub fn read_signature(
     let n = rows::count_rows(layout, columns::METHOD_LIST);
     let mut class = 0;
     let mut first = m + 1;
-    let mut row = 1;
+    let mut row = first_reader(tables, layout, m) + 1;
     while row < n {
         let column = rows::read_column(tables, layout, columns::METHOD_LIST, row) as usize;
         row += 1;

@@ -2,7 +2,8 @@
 -- Assumes nothing.
 use mathlib.Core.Path.{_≡_, refl, sym, ap, ap₂, _∙_}
 use mathlib.Core.List.{List, [], _∷_}
-use Prim.Native.Nat.{ℕ, suc, _+_, _-_, _≤_, _<_}
+use mathlib.Core.Logic.{_⊎_, ⊎-elim}
+use Prim.Native.Nat.{ℕ, zero, suc, _+_, _-_, _≤_, _<_}
 use native.Mathlib.Omega.{arith}
 use borrow.Author.Tests.{eq-eqb, ne-eqb, le-leb, lt-leb}
 use Rattle.numbers.specs.Lists.{tabulate}
@@ -12,8 +13,8 @@ use Rattle.record.specs.View.{View, viewOf}
 use Rattle.record.specs.Names.{rowsIn, numberIn, classes, classRow}
 use Rattle.record.specs.Methods.{methodLists, takes, leftOver, leftAfter}
 use Rattle.record.proofs.Read.{class-row, left-le}
-use Rattle.rows.specs.Layout.{Laid, rowsAt, cell, optionsIn, viewIn}
-use Rattle.rows.proofs.Laws.{rows-at}
+use Rattle.rows.specs.Layout.{Laid, Ascends, rowsAt, cell, optionsIn, viewIn}
+use Rattle.rows.proofs.Laws.{rows-at, le-or-lt}
 use Rattle.methods.specs.Ranges.{RangeOf}
 
 -- ---- What a class takes
@@ -33,6 +34,21 @@ takes-past col left h e k = rw (ne-eqb col 0 h, ← e, lt-leb _ left k)
 takes-le : (col left : ℕ) → takes col left ≤ left
 unfolding leftOver
 takes-le col left = left-le left (col ∷ [])
+
+-- Of two classes the first to be handled adds nothing if the other begins no later.
+takes-twice : (x y left : ℕ) → (x ≡ 0 → ⊥) → x ≤ y → takes x (takes y left) ≡ takes x left
+takes-twice x y left n h = ⊎-elim rest past (le-or-lt (y - 1) left)
+  where
+    later : y ≡ 0 → ⊥
+    later e = n (omega arith)
+
+    rest : y - 1 ≤ left → takes x (takes y left) ≡ takes x left
+    rest l =
+        rw (← takes-rest y left later refl l)
+        (sym (takes-rest x (y - 1) n refl (omega arith)) ∙ takes-rest x left n refl (omega arith))
+
+    past : left < y - 1 → takes x (takes y left) ≡ takes x left
+    past l = rw (← takes-past y left later refl l)
 
 -- ---- The scan
 
@@ -90,14 +106,33 @@ module _ {t l : List ℕ} (laid : Laid t l) (strings blob : List ℕ) where
       let s = left-step v (r - 1 - 1) (omega arith) in
       n ∙ ap₂ takes (read ∙ ap (cell t l 6) (sym one) ∙ sym c) (a ∙ ap (leftAfter v) (sym one)) ∙ sym s
 
-  -- The range of the class at a row, once the scan has come to it.
-  pub range-is : (row : ℕ) {own r x first left : ℕ} → own ≡ row → r ≡ row → 1 < row → row ≤ rowsAt l 6
-      → x ≡ cell t l 6 (own - 1) → left ≡ leftAfter v (r - 1) → first ≡ takes x left → RangeOf v (row - 2) first left
-  range-is row {own} {r} {x} {first} {left} eo er z h read a n =
+  -- The range of the class at a row, by what the classes after it have left.
+  pub range-is : (row : ℕ) {own x first left : ℕ} → own ≡ row → 1 < row → row ≤ rowsAt l 6
+      → x ≡ cell t l 6 (own - 1) → left ≡ leftAfter v (own - 1) → first ≡ takes x left → RangeOf v (row - 2) first left
+  range-is row {own} {x} {first} {left} eo z h read a n =
       let two : row - 1 - 1 ≡ row - 2 = omega arith in
-      let one : r - 1 ≡ row - 2 + 1 = omega arith in
-      let here : left ≡ leftAfter v (row - 1) = rw er at a in
-      let begins = class-takes row z h (rw eo at read) here n in
-      let i = left-inside v (r - 1) in
+      let one : own - 1 ≡ row - 2 + 1 = omega arith in
+      let begins = class-takes row z h (rw eo at read) (rw eo at a) n in
+      let i = left-inside v (own - 1) in
       let o = takes-le x left in
       record { begins = rw two at begins; ends = a ∙ ap (leftAfter v) one; inside = omega arith; order = omega arith }
+
+  -- Where MethodList ascends, what the classes from c on leave is decided by class c alone, unless its column is 0.
+  none-after : (c : ℕ) → classes v ≤ c → leftAfter v c ≡ rowsAt l 8
+  unfolding leftAfter
+  none-after c h = left-none v c (classes v - c) (omega arith) ∙ method-count
+
+  decides : Ascends (cell t l 6) (rowsAt l 6) → (d c : ℕ) → classes v ≡ c + suc d → (cell t l 6 (c + 1) ≡ 0 → ⊥)
+      → leftAfter v c ≡ takes (cell t l 6 (c + 1)) (rowsAt l 8)
+  decides up zero c e n = left-step v c (omega arith) ∙ ap₂ takes (column-read c (omega arith)) (none-after (c + 1) (omega arith))
+  decides up (suc d) c e n =
+      let next = up (c + 1) (omega (arith, class-count)) in
+      left-step v c (omega arith) ∙ ap₂ takes (column-read c (omega arith)) (decides up d (c + 1) (omega arith) (λ z. n (omega arith)))
+      ∙ takes-twice _ _ _ n next
+
+  pub next-decides : Ascends (cell t l 6) (rowsAt l 6) → (row : ℕ) {x all left : ℕ} → 0 < row → row < rowsAt l 6
+      → x ≡ cell t l 6 row → (x ≡ 0 → ⊥) → all ≡ rowsAt l 8 → left ≡ takes x all → left ≡ leftAfter v (row - 1)
+  next-decides up row {x} z h read n a e =
+      let one : row - 1 + 1 ≡ row = omega arith in
+      let same : cell t l 6 (row - 1 + 1) ≡ x = ap (cell t l 6) one ∙ sym read in
+      e ∙ ap₂ takes (sym same) a ∙ sym (decides up (classes v - row) (row - 1) (omega (arith, class-count)) (λ q. n (sym same ∙ q)))

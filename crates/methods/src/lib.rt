@@ -5,7 +5,7 @@ use rows::columns;
 ghost use mathlib.Core.Path.{_≡_};
 ghost use mathlib.Core.List.{List};
 ghost use Prim.Native.Nat.{ℕ, _-_, _<_, _≤_};
-ghost use Rattle.record.specs.Methods.{takes};
+ghost use Rattle.record.specs.Methods.{takes, leftAfter};
 ghost use Rattle.rows.specs.Layout.{Laid, rowsAt, viewIn};
 ghost use Rattle.methods.specs.Ranges.{RangeOf};
 
@@ -32,6 +32,41 @@ fn take_from(column: u32, left: usize) -> usize
     if first <= left { first } else { left }
 }
 
+// How many methods the classes after a TypeDef row have left, taken class by class.
+fn scan_left(tables: &[u8], layout: &rows::Layout, row: usize) -> usize
+    requires { ⌜ Laid (now tables) (now layout) ⌝ }
+    requires { ⌜ (0 < row) × (row ≤ rowsAt (now layout) 6) ⌝ }
+    ensures { λ r. ⌜ ((strings blob : List ℕ) → r ≡ leftAfter (viewIn (now (tables .entry)) (now (layout .entry)) strings blob) (row - 1)) ⌝ }
+{
+    let mut left = rows::count_rows(layout, columns::METHOD_NAME);
+    let mut r = rows::count_rows(layout, columns::METHOD_LIST);
+    while row < r {
+        r -= 1;
+        left = take_from(
+            rows::read_column(tables, layout, columns::METHOD_LIST, r),
+            left,
+        );
+    }
+    left
+}
+
+// The same. Where MethodList is known to ascend, the next class has taken all that those after it have left, unless its column is 0.
+fn left_after(tables: &[u8], layout: &rows::Layout, row: usize) -> usize
+    requires { ⌜ Laid (now tables) (now layout) ⌝ }
+    requires { ⌜ (0 < row) × (row ≤ rowsAt (now layout) 6) ⌝ }
+    ensures { λ r. ⌜ ((strings blob : List ℕ) → r ≡ leftAfter (viewIn (now (tables .entry)) (now (layout .entry)) strings blob) (row - 1)) ⌝ }
+{
+    if rows::is_marked(layout, columns::METHOD_LIST) {
+        if row < rows::count_rows(layout, columns::METHOD_LIST) {
+            let next = rows::read_column(tables, layout, columns::METHOD_LIST, row);
+            if next != 0 {
+                return take_from(next, rows::count_rows(layout, columns::METHOD_NAME));
+            }
+        }
+    }
+    scan_left(tables, layout, row)
+}
+
 // The methods of the class at a TypeDef row.
 pub fn method_range(tables: &[u8], layout: &rows::Layout, row: TypeDefRow) -> Range
     requires { ⌜ Laid (now tables) (now layout) ⌝ }
@@ -39,19 +74,10 @@ pub fn method_range(tables: &[u8], layout: &rows::Layout, row: TypeDefRow) -> Ra
     ensures { λ r. ⌜ ((strings blob : List ℕ) → RangeOf (viewIn (now (tables .entry)) (now (layout .entry)) strings blob) (row .0 - 2) (r .first) (r .end)) ⌝ }
 {
     let own = wide(row.0);
-    let mut left = rows::count_rows(layout, columns::METHOD_NAME);
-    let mut r = rows::count_rows(layout, columns::METHOD_LIST);
-    // The classes after row r have taken theirs.
-    while own < r {
-        r -= 1;
-        left = take_from(
-            rows::read_column(tables, layout, columns::METHOD_LIST, r),
-            left,
-        );
-    }
+    let end = left_after(tables, layout, own);
     let first = take_from(
         rows::read_column(tables, layout, columns::METHOD_LIST, own - 1),
-        left,
+        end,
     );
-    Range { first, end: left }
+    Range { first, end }
 }

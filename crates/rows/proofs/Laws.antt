@@ -5,9 +5,9 @@ use mathlib.Core.List.{List, [], _∷_, _++_}
 use Prim.Native.Nat.{ℕ, zero, suc, _+_, _*_, _≤_, _<_}
 use native.Mathlib.Nat.{le-of-suc-le-suc, not-suc-le-zero, mul-le-mul-right, suc-mul}
 use native.Mathlib.Omega.{arith}
-use mathlib.Core.Logic.{⊎-elim}
+use mathlib.Core.Logic.{_⊎_, inl, inr, ⊎-elim}
 use denote.Ref.{RefT, now}
-use lib.Dec.{T, ltb, ltb→lt}
+use lib.Dec.{T, ltb, ltb→lt, eqb, eqb→eq}
 use lib.ListN.{length, getD}
 use Rattle.numbers.specs.Fixed.{leAt}
 use Rattle.numbers.specs.Parts.{CutOf}
@@ -32,7 +32,7 @@ use Rattle.record.specs.View.{place}
 use Rattle.record.proofs.Read.{column-at, column-inside}
 use Rattle.record.proofs.Extents.{kept-le}
 use Rattle.layouts.specs.Read.{Of, readColumns, readColumn, offsetIn, bytesIn}
-use Rattle.rows.specs.Layout.{columnNumbers, allNumbers, layoutOf, optionsIn, headerIn, rowsAt, cell, Laid}
+use Rattle.rows.specs.Layout.{columnNumbers, allNumbers, layoutOf, optionsIn, headerIn, rowsAt, markAt, cell, Ascends, Laid}
 
 -- The numbers of column c stand from 4 * c on.
 module _ (o : Options) (h : Header) (n : ℕ) where
@@ -144,3 +144,23 @@ rows-narrow {t} {l} laid c k =
       few-rows (optionsIn l) (headerIn t l) (length t) (readColumn c .kind) kind,
       few-counted (optionsIn l) t (readColumn c .kind) kind,
     )
+
+-- A column that is marked ascends, also from one row to a later one.
+pub marked-ascends : {t l : List ℕ} → Laid t l → (c : ℕ) → c < 19 → {r : Bool} → r ≡ eqb (markAt l c) 1 → r ≡ true → Ascends (cell t l c) (rowsAt l c)
+marked-ascends {t} {l} laid c k e m = laid .marked c k (eqb→eq (markAt l c) 1 (rw (sym e ∙ m) tt))
+
+pub ascending : (f : ℕ → ℕ) (n : ℕ) → Ascends f n → (i d : ℕ) → i + d < n → f i ≤ f (i + d)
+ascending f n a i zero k =
+    let same : f (i + 0) ≡ f i = ap f (omega arith) in
+    omega arith
+ascending f n a i (suc d) k =
+    let up = ascending f n a i d (omega arith) in
+    let one : i + d + 1 ≡ i + suc d = omega arith in
+    let next : f (i + d + 1) ≡ f (i + suc d) = ap f one in
+    omega (arith, a (i + d) (omega arith))
+
+-- A number is at most another, or greater.
+pub le-or-lt : (m n : ℕ) → (m ≤ n) ⊎ (n < m)
+le-or-lt zero n = inl (omega arith)
+le-or-lt (suc m) zero = inr (omega arith)
+le-or-lt (suc m) (suc n) = ⊎-elim (λ h. inl (omega arith)) (λ h. inr (omega arith)) (le-or-lt m n)

@@ -6,9 +6,10 @@ use buffers::Reply;
 use heaps::Part;
 ghost use mathlib.Core.Path.{_≡_};
 ghost use Prim.Native.Nat.{_<_};
+ghost use lib.Dec.{eqb};
 ghost use Rattle.buffers.specs.Replies.{nameOr5, Named};
 ghost use Rattle.heaps.specs.Lookups.{stringAt, string};
-ghost use Rattle.rows.specs.Layout.{Laid, rowsAt, cell};
+ghost use Rattle.rows.specs.Layout.{Laid, rowsAt, markAt, cell};
 
 // Four numbers for each of the 19 columns that are read, the two options, and a mark for each column: 1 where it is known to ascend.
 pub type Layout = [usize; 97];
@@ -19,6 +20,14 @@ pub fn count_rows(layout: &Layout, column: usize) -> usize
     ensures { λ r. ⌜ r ≡ rowsAt (now (layout .entry)) column ⌝ }
 {
     layout[4 * column + 3]
+}
+
+// Whether a column is marked: known to ascend.
+pub fn is_marked(layout: &Layout, column: usize) -> bool
+    requires { ⌜ column < 19 ⌝ }
+    ensures { λ r. ⌜ r ≡ eqb (markAt (now (layout .entry)) column) 1 ⌝ }
+{
+    layout[78 + column] == 1
 }
 
 // The number in a column of row i, from 0.

@@ -2,71 +2,73 @@ use mathlib.Core.Path.{_≡_}
 use Prim.Native.Nat.{_-_, _≤_}
 use native.Mathlib.Omega.{arith}
 use borrow.Author.Needs.{needs}
-use Rattle.rows.specs.Layout.{cell}
+use Rattle.rows.specs.Layout.{rowsAt, cell}
 use Rattle.keys.specs.Keyed.{keyed}
 use Rattle.keys.proofs.Laws.{none-seen, all-seen, key-met, key-passed}
 use Rattle.keys.proofs.count_key.Statement.{statement}
 use Rattle.keys.proofs.count_key.Tie as tie
 use Rattle.keys.proofs.count_key.Reads as reads
 use Rattle.keys.proofs.count_key.Lts as lts
-use Rattle.rows.proofs.count_rows.Reads as count-rows-reads
+use Rattle.keys.proofs.key_rows.Reads as key-rows-reads
 use Rattle.rows.proofs.read_column.Reads as read-column-reads
 
 abbrev Inv-loop : tie.InvT-loop
-Inv-loop tables layout column key n i₀ seen₀ i seen = (i ≤ n) × (seen ≤ i) × (seen ≡ keyed (cell tables layout column) key i)
+Inv-loop tables layout column key end i₀ seen₀ i seen = (i ≤ end) × (end ≤ rowsAt layout column) × (seen ≤ i) × (seen ≡ keyed (cell tables layout column) key i)
 
 abbrev μ-loop : tie.MeasureT-loop
-μ-loop tables layout column key n i₀ seen₀ i seen = n - i
+μ-loop tables layout column key end i₀ seen₀ i seen = end - i
 
--- src/lib.rt:20:9
-count-rows-requires : tie.Need-count-rows-requires Inv-loop μ-loop
-count-rows-requires c κs = search needs
+-- src/lib.rt:63:9
+key-rows-requires : tie.Need-key-rows-requires Inv-loop μ-loop
+key-rows-requires c κs = search needs
 
--- src/lib.rt:23:5
+-- src/lib.rt:67:5
 loop-holds : tie.Need-loop-holds Inv-loop μ-loop
-loop-holds c = (omega arith, omega arith, none-seen _ _)
+loop-holds c =
+    let o = c .key-rows .ensures in
+    (o .order, o .within, omega arith, none-seen _ _ _ o)
 
--- src/lib.rt:24:13
+-- src/lib.rt:68:13
 read-column-requires : tie.Need-read-column-requires Inv-loop μ-loop
 read-column-requires c κs = search needs
 
--- src/lib.rt:25:9
+-- src/lib.rt:69:9
 add-i : tie.Need-add-i Inv-loop μ-loop
 add-i c = search needs
 
--- src/lib.rt:26:12
+-- src/lib.rt:70:12
 cast-if1 : tie.Need-cast-if1 Inv-loop μ-loop
 cast-if1 c = search needs
 
--- src/lib.rt:27:13
+-- src/lib.rt:71:13
 add-seen : tie.Need-add-seen Inv-loop μ-loop
 add-seen c = search needs
 
--- src/lib.rt:23:5
+-- src/lib.rt:67:5
 loop-less : tie.Need-loop-less Inv-loop μ-loop
 loop-less c = search needs
 
--- src/lib.rt:23:5
+-- src/lib.rt:67:5
 loop-again : tie.Need-loop-again Inv-loop μ-loop
 loop-again c =
     let read = c .before in
     let l = read .before .before .loop in
-    (omega arith, omega arith, key-met _ _ (l .i) (read .read-column .ensures) (c .if1 .taken) (l .inv .2))
+    (omega arith, l .inv .1, omega arith, key-met _ _ (l .i) (read .read-column .ensures) (c .if1 .taken) (l .inv .3))
 
--- src/lib.rt:23:5
+-- src/lib.rt:67:5
 loop-less-2 : tie.Need-loop-less-2 Inv-loop μ-loop
 loop-less-2 c = search needs
 
--- src/lib.rt:23:5
+-- src/lib.rt:67:5
 loop-again-2 : tie.Need-loop-again-2 Inv-loop μ-loop
 loop-again-2 c =
     let read = c .before in
     let l = read .before .before .loop in
-    (omega arith, omega arith, key-passed _ _ (l .i) (read .read-column .ensures) (c .if1 .left) (l .inv .2))
+    (omega arith, l .inv .1, omega arith, key-passed _ _ (l .i) (read .read-column .ensures) (c .if1 .left) (l .inv .3))
 
--- src/lib.rt:15:1
+-- src/lib.rt:58:1
 returns : tie.Need-returns Inv-loop μ-loop
-returns c = all-seen _ _ (c .before .loop .i) _ (omega arith) (c .before .loop .inv .2)
+returns c = all-seen _ _ _ (c .before .before .key-rows .ensures) (c .before .loop .i) (omega arith) (c .before .loop .inv .3)
 
 pub count-key-spec : {M : Type 1} → statement M
 count-key-spec =
@@ -74,7 +76,7 @@ count-key-spec =
     (tie.spec
     Inv-loop
     μ-loop
-    count-rows-requires
+    key-rows-requires
     loop-holds
     read-column-requires
     add-i

@@ -1,17 +1,18 @@
 use borrow.Author.Needs.{needs}
-use mathlib.Core.Path.{_≡_, refl, sym, ap, _∙_}
-use Prim.Native.Nat.{_-_, _<_, _≤_}
+use mathlib.Core.Path.{_≡_, refl, sym, ap, subst, _∙_}
+use Prim.Native.Nat.{ℕ, _+_, _-_, _<_, _≤_}
 use native.Mathlib.Omega.{arith}
 use lib.ListN.{length}
 use Rattle.record.specs.Names.{classes}
 use Rattle.rows.specs.Layout.{viewIn}
 use Rattle.rows.proofs.Laws.{rows-narrow}
 use Rattle.method_signatures.specs.Signatures.{readWithin}
-use Rattle.method_signatures.proofs.Laws.{Standing, stand-start, stand-end, class-rows, method-rows, turn-skip, turn-read, turn-next, reading-length, reading-as, reading-missed, reading-stands}
+use Rattle.method_signatures.proofs.Laws.{Standing, stand-from, stand-end, class-rows, method-rows, turn-skip, turn-read, turn-next, reading-length, reading-as, reading-missed, reading-stands}
 use Rattle.method_signatures.proofs.read_signature.Statement.{statement}
 use Rattle.method_signatures.proofs.read_signature.Tie as tie
 use Rattle.method_signatures.proofs.read_signature.Reads as reads
 use Rattle.method_signatures.proofs.read_signature.Lts as lts
+use Rattle.method_signatures.proofs.first_reader.Reads as first-reader-reads
 use Rattle.method_signatures.proofs.read_within.Reads as read-within-reads
 use Rattle.rows.proofs.count_rows.Reads as count-rows-reads
 use Rattle.rows.proofs.read_column.Reads as read-column-reads
@@ -22,51 +23,62 @@ Inv-loop buf₀ tables strings blob layout m n class₀ first₀ row₀ buf clas
 abbrev μ-loop : tie.MeasureT-loop
 μ-loop buf₀ tables strings blob layout m n class₀ first₀ row₀ buf class first row = n - row
 
--- src/lib.rt:125:9
+-- src/lib.rt:148:9
 count-rows-requires : tie.Need-count-rows-requires Inv-loop μ-loop
 count-rows-requires c κs = search needs
 
--- src/lib.rt:127:21
+-- src/lib.rt:150:21
 add-first : tie.Need-add-first Inv-loop μ-loop
 add-first c =
     let start = c .before .before .before .before .before in
     record { fits = omega (arith, start .pre .1, rows-narrow (start .pre .0) 9 (omega arith)) }
 
--- src/lib.rt:129:5
+-- src/lib.rt:151:19
+first-reader-requires : tie.Need-first-reader-requires Inv-loop μ-loop
+first-reader-requires c κs = search needs
+
+-- src/lib.rt:151:19
+add-row : tie.Need-add-row Inv-loop μ-loop
+add-row c = record { fits = omega (arith, c .first-reader .ensures .0) }
+
+-- src/lib.rt:152:5
 loop-holds : tie.Need-loop-holds Inv-loop μ-loop
 loop-holds c =
-    let start = c .before .before .before .before .before in
-    (omega arith, omega arith, refl, stand-start (viewIn (start .args .tables .now) (start .args .layout .now) (start .args .strings .now) (start .args .blob .now)) (start .args .m))
+    let start = c .before .before .before .before .before .before in
+    let reader = c .first-reader .result in
+    let e : reader ≡ reader + 1 - 1 = omega arith in
+    let from = stand-from _ _ reader (c .first-reader .ensures .1 (start .args .strings .now) (start .args .blob .now)) in
+    (omega arith, omega arith, refl, subst (λ (i : ℕ). Standing (viewIn (start .args .tables .now) (start .args .layout .now) (start .args .strings .now) (start .args .blob .now)) (start .args .m) i 0 (start .args .m + 1)) e from)
 
--- src/lib.rt:130:22
+-- src/lib.rt:153:22
 read-column-requires : tie.Need-read-column-requires Inv-loop μ-loop
 read-column-requires c κs = search needs
 
--- src/lib.rt:130:22
+-- src/lib.rt:153:22
 cast-column : tie.Need-cast-column Inv-loop μ-loop
 cast-column c = search needs
 
--- src/lib.rt:131:9
-add-row : tie.Need-add-row Inv-loop μ-loop
-add-row c = search needs
+-- src/lib.rt:154:9
+add-row-2 : tie.Need-add-row-2 Inv-loop μ-loop
+add-row-2 c = search needs
 
--- src/lib.rt:142:17
+-- src/lib.rt:165:17
 sub-read-within : tie.Need-sub-read-within Inv-loop μ-loop
 sub-read-within c = search needs
 
--- src/lib.rt:133:19
+-- src/lib.rt:156:19
 read-within-requires : tie.Need-read-within-requires Inv-loop μ-loop
 read-within-requires c κs = search needs
 
--- src/lib.rt:144:33
+-- src/lib.rt:168:21
 enum-known-owner : tie.Need-enum-known-owner Inv-loop μ-loop
 enum-known-owner c = search needs
 
--- src/lib.rt:145:21
+-- src/lib.rt:175:21
 same-length : tie.Need-same-length Inv-loop μ-loop
 same-length c = search needs
 
--- src/lib.rt:145:21
+-- src/lib.rt:175:21
 returns : tie.Need-returns Inv-loop μ-loop
 returns c =
     let at-owner = c .before in
@@ -75,27 +87,27 @@ returns c =
     let at-read-column = at-if1 .before in
     let at-loop-test = at-read-column .before in
     let at-loop = at-loop-test .before in
-    let at-count-rows = at-loop .before in
+    let at-count-rows = at-loop .before .before in
     let start = at-count-rows .before .before .before .before .before in
     reading-length (at-loop .loop .inv .2) (reading-stands (at-read-within .read-within .ensures) (turn-read (start .pre .0) (start .args .strings .now) (start .args .blob .now) _ (at-loop .loop .inv .0) (omega (arith, at-loop-test .loop-test .taken, at-count-rows .count-rows .ensures)) (at-read-column .read-column .ensures) _ _ (at-loop .loop .inv .3) (at-if1 .if1 .taken)) (at-owner .owner .given .1))
 
--- src/lib.rt:148:29
+-- src/lib.rt:185:29
 enum-told : tie.Need-enum-told Inv-loop μ-loop
 enum-told c = search needs
 
--- src/lib.rt:148:29
+-- src/lib.rt:185:29
 sub-class : tie.Need-sub-class Inv-loop μ-loop
 sub-class c = search needs
 
--- src/lib.rt:149:29
+-- src/lib.rt:186:29
 sub-first : tie.Need-sub-first Inv-loop μ-loop
 sub-first c = search needs
 
--- src/lib.rt:129:5
+-- src/lib.rt:152:5
 loop-less : tie.Need-loop-less Inv-loop μ-loop
 loop-less c = search needs
 
--- src/lib.rt:129:5
+-- src/lib.rt:152:5
 loop-again : tie.Need-loop-again Inv-loop μ-loop
 loop-again c =
     let at-read-within = c .before .before .before .before in
@@ -103,45 +115,45 @@ loop-again c =
     let at-read-column = at-if1 .before in
     let at-loop-test = at-read-column .before in
     let at-loop = at-loop-test .before in
-    let at-count-rows = at-loop .before in
+    let at-count-rows = at-loop .before .before in
     let start = at-count-rows .before .before .before .before .before in
     let gone = reading-missed (at-read-within .read-within .ensures) (c .enum-told .given .1) in
     (omega (arith, at-loop .loop .inv .0), omega (arith, at-loop-test .loop-test .taken, at-count-rows .count-rows .ensures, rows-narrow (start .pre .0) 6 (omega arith)), gone .1 ∙ at-loop .loop .inv .2, turn-next (start .pre .0) (start .args .strings .now) (start .args .blob .now) _ (at-loop .loop .inv .0) (omega (arith, at-loop-test .loop-test .taken, at-count-rows .count-rows .ensures)) (at-read-column .read-column .ensures) _ _ (at-loop .loop .inv .3) (at-if1 .if1 .taken) (gone .0))
 
--- src/lib.rt:129:5
+-- src/lib.rt:152:5
 loop-less-2 : tie.Need-loop-less-2 Inv-loop μ-loop
 loop-less-2 c = search needs
 
--- src/lib.rt:129:5
+-- src/lib.rt:152:5
 loop-again-2 : tie.Need-loop-again-2 Inv-loop μ-loop
 loop-again-2 c =
     let at-read-column = c .before in
     let at-loop-test = at-read-column .before in
     let at-loop = at-loop-test .before in
-    let at-count-rows = at-loop .before in
+    let at-count-rows = at-loop .before .before in
     let start = at-count-rows .before .before .before .before .before in
     (omega (arith, at-loop .loop .inv .0), at-loop .loop .inv .1, at-loop .loop .inv .2, turn-skip (start .pre .0) (start .args .strings .now) (start .args .blob .now) _ (at-loop .loop .inv .0) (omega (arith, at-loop-test .loop-test .taken, at-count-rows .count-rows .ensures)) (at-read-column .read-column .ensures) _ _ (at-loop .loop .inv .3) (c .if1 .left))
 
--- src/lib.rt:154:9
+-- src/lib.rt:191:9
 count-rows-requires-2 : tie.Need-count-rows-requires-2 Inv-loop μ-loop
 count-rows-requires-2 c κs = search needs
 
--- src/lib.rt:155:5
+-- src/lib.rt:192:5
 read-within-requires-2 : tie.Need-read-within-requires-2 Inv-loop μ-loop
 read-within-requires-2 c κs = search needs
 
--- src/lib.rt:113:1
+-- src/lib.rt:136:1
 same-length-2 : tie.Need-same-length-2 Inv-loop μ-loop
 same-length-2 c = search needs
 
--- src/lib.rt:113:1
+-- src/lib.rt:136:1
 returns-2 : tie.Need-returns-2 Inv-loop μ-loop
 returns-2 c =
     let at-read-within2 = c .before .before in
     let at-count-rows2 = at-read-within2 .before .before in
     let at-loop-test = at-count-rows2 .before in
     let at-loop = at-loop-test .before in
-    let at-count-rows = at-loop .before in
+    let at-count-rows = at-loop .before .before in
     let start = at-count-rows .before .before .before .before .before in
     let h = at-loop .loop in
     let a = start .args in
@@ -158,10 +170,12 @@ read-signature-spec =
     μ-loop
     count-rows-requires
     add-first
+    first-reader-requires
+    add-row
     loop-holds
     read-column-requires
     cast-column
-    add-row
+    add-row-2
     sub-read-within
     read-within-requires
     enum-known-owner
