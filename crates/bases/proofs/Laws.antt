@@ -4,6 +4,8 @@ use mathlib.Core.Bool.{Bool, true, false, cond, true≢false}
 use mathlib.Core.List.{List, [], _∷_, _++_, map, map-append, append-nil}
 use mathlib.Core.Option.{Option, none, some}
 use Prim.Native.Nat.{ℕ, zero, suc, _+_, _-_, _*_, _≤_, _<_}
+use mathlib.Core.Logic.{_≢_, ⊎-elim}
+use native.Mathlib.Nat.{eq-zero-or-pos}
 use native.Mathlib.Numerals.{add-one}
 use native.Mathlib.Omega.{arith}
 use borrow.Author.Tests.{eq-eqb, ne-eqb}
@@ -28,7 +30,8 @@ use Rattle.rows.proofs.Laws.{rows-at}
 use Rattle.listed.proofs.Laws.{classes-are}
 use Rattle.sig_leaves.specs.declared.Owner.the-variants.{Of, Nobody}
 use Rattle.signatures.specs.Environment.{envIn}
-use Rattle.bases.specs.Candidates.{candidate, isThere, firstNames}
+use Rattle.keys.specs.Keyed.{OnlyIn}
+use Rattle.bases.specs.Candidates.{candidate, nextCandidate, isThere, firstNames}
 
 -- ---- Names of which some are missing
 
@@ -74,6 +77,19 @@ module _ (f : ℕ → Option Text) where
   unfolding tabulate
   none-named = refl
 
+  -- Candidates without a name add nothing.
+  none-present : (j d : ℕ) → ((i : ℕ) → j ≤ i → i < j + d → f i ≡ none) → present (tabulate f j d) ≡ []
+  unfolding tabulate
+  none-present j zero h = refl
+  none-present j (suc d) h = rw (h j (omega arith) (omega arith)) (none-present (j + 1) d (λ i l m. h i (omega arith) (omega arith)))
+
+  names-skip : (i d : ℕ) → ((j : ℕ) → i ≤ j → j < i + d → f j ≡ none) → firstNames f (i + d) ≡ firstNames f i
+  names-skip i d h =
+      let z : 0 + i ≡ i = omega arith in
+      ap present (tabulate-split f 0 i d) ∙ present-append (tabulate f 0 i) (tabulate f (0 + i) d)
+      ∙ ap (λ (l : List Text). firstNames f i ++ l) (ap (λ (j : ℕ). present (tabulate f j d)) z ∙ none-present i d h)
+      ∙ append-nil (firstNames f i)
+
   module _ (i : ℕ) {seen : ℕ} (s : seen ≡ length (firstNames f i)) where
     pub name-met : true ≡ isThere (f i) → seen + 1 ≡ length (firstNames f (i + 1))
     unfolding tabulate
@@ -115,6 +131,18 @@ said-anew {b} e (written {t} {at′} w) =
     written {t = t} {at′ = at′} (record { keeps = kept-anew e (w .keeps); place = omega (arith, w .place); text = λ h. w .text (omega arith) })
 
 -- ---- The candidates of a class
+
+-- The candidate after one.
+pub next-first : (first i : ℕ) → i ≡ 0 → first + 1 ≡ nextCandidate first i
+next-first first i e = rw (eq-eqb i 0 e)
+
+pub next-row : (first i : ℕ) → (i ≡ 0 → ⊥) → i + 1 ≡ nextCandidate first i
+next-row first i n = rw (ne-eqb i 0 n)
+
+pub next-bounds : (first i n : ℕ) {j : ℕ} → first + 1 ≤ n → i < n → j ≡ nextCandidate first i → (i < j) × (j ≤ n)
+next-bounds first i n {j} f h e =
+    ⊎-elim (λ z. let k : j ≡ first + 1 = e ∙ sym (next-first first i z) in (omega arith, omega arith))
+    (λ z. let k : j ≡ i + 1 = e ∙ sym (next-row first i (λ q. omega arith)) in (omega arith, omega arith)) (eq-zero-or-pos i)
 
 -- The names of the rows of a key are those of all rows, where a row of another key has none.
 module _ (key value : List ℕ → ℕ) (row : ℕ → List ℕ) (k : ℕ) (name : ℕ → Option Text) (f : ℕ → Option Text)
@@ -172,6 +200,32 @@ module _ {t l : List ℕ} (laid : Laid t l) (strings blob : List ℕ) (r : ℕ) 
       ∙ ap (λ (k : ℕ). present (name (cell t l 5 (r - 1)) ∷ map name (v .interfaces k))) c
       ∙ present-cons (name (cell t l 5 (r - 1))) (map name (v .interfaces r)) (tabulate named 1 (rowsAt l 12)) implemented
       ∙ sym (ap (firstNames named) (add-one (rowsAt l 12)))
+
+  -- Of rows that are not the class's own no candidate has a name.
+  other-row : (i : ℕ) → cell t l 12 i ≢ r → named (suc i) ≡ none
+  unfolding candidate
+  other-row i n = rw (ne-eqb (cell t l 12 i) r n)
+
+  unnamed : (j : ℕ) → 0 < j → cell t l 12 (j - 1) ≢ r → named j ≡ none
+  unnamed j z n = let one : j ≡ suc (j - 1) = omega arith in ap named one ∙ other-row (j - 1) n
+
+  -- The rows of InterfaceImpl among which are all of the class's own.
+  module _ {k first end : ℕ} (key : k ≡ r) (o : OnlyIn (cell t l 12) k (rowsAt l 12) first end) where
+    pub own-next : (i : ℕ) {j seen : ℕ} → j ≡ nextCandidate first i → seen ≡ length (firstNames named (i + 1)) → seen ≡ length (firstNames named j)
+    own-next i {j} {seen} e s = ⊎-elim start on (eq-zero-or-pos i)
+      where
+        start : i ≡ 0 → seen ≡ length (firstNames named j)
+        start z =
+            let two : j ≡ i + 1 + first = e ∙ rw (eq-eqb i 0 z) (omega arith) in
+            s ∙ ap length (sym (names-skip named (i + 1) first (λ x lo hi. unnamed x (omega arith) (λ q. o .before (x - 1) (omega arith) (q ∙ sym key)))) ∙ ap (firstNames named) (sym two))
+
+        on : 0 < i → seen ≡ length (firstNames named j)
+        on z = let one : j ≡ i + 1 = e ∙ rw (ne-eqb i 0 (λ q. omega arith)) in s ∙ ap (λ (x : ℕ). length (firstNames named x)) (sym one)
+
+    pub own-all : {i seen : ℕ} → i ≡ end + 1 → seen ≡ length (firstNames named i) → seen ≡ length (firstNames named (rowsAt l 12 + 1))
+    own-all {i} e s =
+        let all : i + (rowsAt l 12 - end) ≡ rowsAt l 12 + 1 = omega (arith, o .within) in
+        s ∙ ap length (sym (names-skip named i (rowsAt l 12 - end) (λ x lo hi. unnamed x (omega arith) (λ q. o .behind (x - 1) (omega arith) (omega (arith, o .within)) (q ∙ sym key)))) ∙ ap (firstNames named) all)
 
   -- What rendering a candidate comes to: number 0 is the extended type, and the others are rows of InterfaceImpl.
   module _ (i : ℕ) {b : List ℕ} where

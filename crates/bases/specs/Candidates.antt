@@ -2,7 +2,7 @@
 use mathlib.Core.Bool.{Bool, true, false, cond}
 use mathlib.Core.List.{List}
 use mathlib.Core.Option.{Option, none, some}
-use Prim.Native.Nat.{ℕ, zero, suc, _-_}
+use Prim.Native.Nat.{ℕ, zero, suc, _+_, _-_}
 use lib.Dec.{eqb}
 use Rattle.numbers.specs.Lists.{tabulate}
 use Rattle.buffers.specs.Texts.{Text}
@@ -15,6 +15,10 @@ use Rattle.rows.specs.Layout.{cell, viewIn}
 unfoldable pub candidate : List ℕ → List ℕ → List ℕ → List ℕ → ℕ → ℕ → Option Text
 candidate t l strings blob r zero = typeNameIn (viewIn t l strings blob) (r - 2) (cell t l 5 (r - 1))
 candidate t l strings blob r (suc i) = cond (eqb (cell t l 12 i) r) (typeNameIn (viewIn t l strings blob) (r - 2) (cell t l 13 i)) none
+
+-- The candidate that is tried after candidate i, where no row before the first is the class's own.
+abbrev pub nextCandidate : ℕ → ℕ → ℕ
+nextCandidate first i = cond (eqb i 0) (first + 1) (i + 1)
 
 -- Whether a name is there.
 abbrev pub isThere : Option Text → Bool

@@ -12,7 +12,7 @@ ghost use lib.ListN.{length, getElem?};
 ghost use Rattle.buffers.specs.Writes.{Said, placeSays};
 ghost use Rattle.record.specs.Names.{typeNameIn, baseTypes};
 ghost use Rattle.rows.specs.Layout.{Laid, rowsAt, viewIn};
-ghost use Rattle.bases.specs.Candidates.{candidate, isThere};
+ghost use Rattle.bases.specs.Candidates.{candidate, nextCandidate, isThere};
 
 fn wide(x: u32) -> usize
     ensures { λ r. ⌜ r ≡ x ⌝ }
@@ -20,12 +20,16 @@ fn wide(x: u32) -> usize
     x as usize
 }
 
-// How many candidates for a base type every class has: number 0 is the extended type, and number i + 1 is row i of InterfaceImpl.
-fn count_candidates(layout: &Layout) -> usize
-    requires { ⌜ rowsAt (now layout) 12 < 4294967296 ⌝ }
-    ensures { λ r. ⌜ r ≡ rowsAt (now (layout .entry)) 12 + 1 ⌝ }
+// The number of the candidate after i: number 0 is the extended type, and number i + 1 is row i of InterfaceImpl. No row before the first
+// is the class's own.
+fn next_candidate(i: usize, first: usize) -> usize
+    requires { ⌜ (i < 4294967296) × (first < 4294967296) ⌝ }
+    ensures { λ r. ⌜ r ≡ nextCandidate first i ⌝ }
 {
-    rows::count_rows(layout, columns::IMPL_CLASS) + 1
+    if i == 0 {
+        return first + 1;
+    }
+    i + 1
 }
 
 // Write the name behind a TypeDefOrRef index that stands in a row of a class.
@@ -115,12 +119,14 @@ pub fn count_bases(
     requires { ⌜ (1 < row .0) × (row .0 ≤ rowsAt (now layout) 3) ⌝ }
     ensures { λ r. ⌜ r ≡ length (baseTypes (viewIn (now (tables .entry)) (now (layout .entry)) (now (strings .entry)) (now (blob .entry))) (row .0 - 2)) ⌝ }
 {
-    let n = count_candidates(layout);
+    let own = keys::key_rows(tables, layout, columns::IMPL_CLASS, wide(row.0));
+    let first = own.first;
+    let n = own.end + 1;
     let mut i = 0;
     let mut seen = 0;
     while i < n {
         let named = has_name(tables, strings, blob, layout, row, i);
-        i += 1;
+        i = next_candidate(i, first);
         if named {
             seen += 1;
         }
@@ -142,12 +148,14 @@ pub fn render_base(
     requires { ⌜ (1 < row .0) × (row .0 ≤ rowsAt (now layout) 3) ⌝ }
     ensures { λ r. ⌜ Said (now (buf .entry)) 0 (now (buf .exit)) (getElem? (baseTypes (viewIn (now (tables .entry)) (now (layout .entry)) (now (strings .entry)) (now (blob .entry))) (row .0 - 2)) nth) (placeSays r) ⌝ }
 {
-    let n = count_candidates(layout);
+    let own = keys::key_rows(tables, layout, columns::IMPL_CLASS, wide(row.0));
+    let first = own.first;
+    let n = own.end + 1;
     let mut i = 0;
     let mut seen = 0;
     while i < n {
         let at = i;
-        i += 1;
+        i = next_candidate(i, first);
         match render_candidate(buf, tables, strings, blob, layout, row, at) {
             Place::Next(end) => {
                 if seen == nth {
