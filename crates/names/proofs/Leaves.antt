@@ -3,7 +3,8 @@ use mathlib.Core.Path.{_≡_, refl, sym, ap, subst, _∙_}
 use mathlib.Core.Bool.{Bool, true, false, _&&_}
 use mathlib.Core.List.{List}
 use mathlib.Core.Option.{Option, none, some}
-use Prim.Native.Nat.{ℕ, _+_, _-_, _≤_, _<_}
+use mathlib.Core.Logic.{⊎-elim}
+use Prim.Native.Nat.{ℕ, _+_, _-_, _≤_, _<_, min}
 use native.Mathlib.Omega.{arith}
 use borrow.Author.Tests.{eq-eqb, ne-eqb, lt-ltb, le-ltb}
 use lib.Dec.{eqb, ltb}
@@ -25,10 +26,15 @@ use Rattle.record.specs.Namespaces.{cut, classAt, nameOf}
 use Rattle.record.specs.View.{place, otherRow}
 use Rattle.layouts.specs.Read.{readColumn}
 use Rattle.rows.specs.Layout.{optionsIn, headerIn, rowsAt, cell, Laid}
-use Rattle.rows.proofs.Laws.{rows-at}
-use Rattle.names.specs.Naming.{nameText, NameInside, Shows, classString, nameIn, aroundIn}
+use Rattle.rows.proofs.Laws.{rows-at, le-or-lt}
+use Rattle.keys.specs.Keyed.{OnlyIn}
+use Rattle.classes.specs.declared.TypeDefRow.{TypeDefRow}
+use Rattle.names.specs.Naming.{nameText, NameInside, Shows, classString, nameIn, aroundIn, aroundSays, LastAround}
 use Rattle.names.specs.declared.Name.{Name}
 use Rattle.names.specs.declared.Name.the-variants.{At, Missing}
+use Rattle.names.specs.declared.Around.{Around}
+use Rattle.names.specs.declared.Around.the-variants.{Class, NoClass}
+use Rattle.names.specs.declared.Outer.the-variants.{Nested, Outermost}
 
 -- What is known of a name that was found.
 pub shown-at : {s : List ℕ} {d : Option Text} {p : Name} {start n : ℕ} → Shows s d p → p ≡ At start n → (d ≡ some (part s start n)) × (start + n ≤ length s)
@@ -135,3 +141,29 @@ module _ (t l : List ℕ) (i r : ℕ) where
   pub around-in : 1 < cell t l 15 i → 1 < cell t l 16 i → cell t l 15 i ≡ r → some (cell t l 16 i) ≡ aroundIn t l i r
   unfolding aroundIn
   around-in h k e = rw (lt-ltb 1 (cell t l 15 i) h, lt-ltb 1 (cell t l 16 i) k, eq-eqb r (cell t l 15 i) (sym e))
+
+-- The search for the last row that puts a class around another: from row i up to the end none does.
+pub record Looking (t l : List ℕ) (end r i : ℕ) : Type 0 where
+  pub within : i ≤ end
+  pub none-acts : (j : ℕ) → i ≤ j → j < end → none ≡ aroundIn t l j r
+
+module _ (t l : List ℕ) (end r : ℕ) where
+  module _ {first past : ℕ} (o : OnlyIn (cell t l 15) r (rowsAt l 15) first past) where
+    pub look-start : {i : ℕ} → end ≤ rowsAt l 15 → i ≡ min end past → Looking t l end r i
+    look-start h e = record { within = omega arith; none-acts = λ j lo hi. around-other t l j r (o .behind j (omega arith) (omega arith)) }
+
+    pub look-end : {i : ℕ} → Looking t l end r i → i ≤ first → LastAround t l end r Outermost
+    look-end {i} k h j hi = ⊎-elim (λ m. k .none-acts j m hi) (λ m. around-other t l j r (o .before j (omega arith))) (le-or-lt i j)
+
+  module _ {i : ℕ} (k : Looking t l end r i) (z : 0 < i) {a : Around} (says : aroundSays a ≡ aroundIn t l (i - 1) r) where
+    pub look-on : a ≡ NoClass → Looking t l end r (i - 1)
+    look-on e =
+        record {
+          within = omega (arith, k .within);
+          none-acts = λ j lo hi.
+              ⊎-elim (λ m. k .none-acts j m hi)
+              (λ m. let one : i - 1 ≡ j = omega arith in sym (ap aroundSays e) ∙ says ∙ ap (λ (x : ℕ). aroundIn t l x r) one) (le-or-lt i j);
+        }
+
+    pub look-found : {e : TypeDefRow} → a ≡ Class e → LastAround t l end r (Nested e (i - 1))
+    look-found e = (omega (arith, k .within), sym (ap aroundSays e) ∙ says, λ j lo hi. k .none-acts j (omega arith) hi)

@@ -3,7 +3,7 @@ use mathlib.Core.Path.{_≡_}
 use mathlib.Core.Bool.{cond, _&&_}
 use mathlib.Core.List.{List, [], _∷_, _++_}
 use mathlib.Core.Option.{Option, none, some}
-use Prim.Native.Nat.{ℕ, _+_, _≤_}
+use Prim.Native.Nat.{ℕ, _+_, _≤_, _<_}
 use lib.Dec.{eqb, ltb}
 use lib.ListN.{length}
 use Rattle.numbers.specs.Parts.{part}
@@ -23,6 +23,8 @@ use Rattle.names.specs.declared.Name.{Name}
 use Rattle.names.specs.declared.Name.the-variants.{At, Missing}
 use Rattle.names.specs.declared.Around.{Around}
 use Rattle.names.specs.declared.Around.the-variants.{Class, NoClass}
+use Rattle.names.specs.declared.Outer.{Outer}
+use Rattle.names.specs.declared.Outer.the-variants.{Nested, Outermost}
 
 -- The text that a name in the strings heap s is.
 abbrev pub nameText : List ℕ → Name → Option Text
@@ -69,6 +71,11 @@ aroundIn t l i r =
 abbrev pub aroundSays : Around → Option ℕ
 aroundSays (Class r) = some (r .0)
 aroundSays NoClass = none
+
+-- Of the first n NestedClass rows the last that puts a class around the class at TypeDef row r, and that class; or that none does.
+abbrev pub LastAround : List ℕ → List ℕ → ℕ → ℕ → Outer → Type 0
+LastAround t l n r (Nested e i) = (i < n) × (some (e .0) ≡ aroundIn t l i r) × ((j : ℕ) → i < j → j < n → none ≡ aroundIn t l j r)
+LastAround t l n r Outermost = (j : ℕ) → j < n → none ≡ aroundIn t l j r
 
 -- What stands in front of a name: its namespace and a dot, where it has one.
 unfoldable pub dotted : Option Text → Text

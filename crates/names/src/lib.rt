@@ -18,7 +18,7 @@ ghost use Rattle.layouts.specs.Kinds.{typeDef};
 ghost use Rattle.record.specs.Names.{classFullName, refFullName};
 ghost use Rattle.layouts.specs.Read.{readColumn};
 ghost use Rattle.rows.specs.Layout.{Laid, rowsAt, cell, viewIn};
-ghost use Rattle.names.specs.Naming.{Shows, classString, nameIn, aroundIn, aroundSays, dotted, frontIn, behindFront};
+ghost use Rattle.names.specs.Naming.{Shows, classString, nameIn, aroundIn, aroundSays, LastAround, dotted, frontIn, behindFront};
 
 // Where in the strings heap a name stands.
 pub enum Name {
@@ -30,6 +30,12 @@ pub enum Name {
 pub enum Around {
     Class(TypeDefRow),
     NoClass,
+}
+
+// The last of some NestedClass rows that puts a class around another, as the class and the row; or that none does.
+pub enum Outer {
+    Nested(TypeDefRow, usize),
+    Outermost,
 }
 
 // The string that a column of TypeDef finds in the row of a class. Row 1 is no class.
@@ -100,6 +106,33 @@ fn class_around(tables: &[u8], layout: &Layout, i: usize, row: TypeDefRow) -> Ar
     Around::Class(TypeDefRow(enclosing))
 }
 
+fn least(a: usize, b: usize) -> usize
+    ensures { λ r. ⌜ r ≡ min a b ⌝ }
+{
+    if b < a { b } else { a }
+}
+
+// Of the rows before an end the last that puts a class around another. Only rows whose nested class it is can.
+fn last_around(tables: &[u8], layout: &Layout, end: usize, row: TypeDefRow) -> Outer
+    requires { ⌜ Laid (now tables) (now layout) ⌝ }
+    requires { ⌜ end ≤ rowsAt (now layout) 15 ⌝ }
+    ensures { λ r. ⌜ LastAround (now (tables .entry)) (now (layout .entry)) end (row .0) r ⌝ }
+{
+    let own = keys::key_rows(tables, layout, rows::columns::NESTED, row.0 as usize);
+    let first = own.first;
+    let mut i = least(end, own.end);
+    while first < i {
+        i -= 1;
+        match class_around(tables, layout, i, row) {
+            Around::Class(outer) => {
+                return Outer::Nested(outer, i);
+            }
+            Around::NoClass => {}
+        }
+    }
+    Outer::Outermost
+}
+
 // Write a part of the strings heap and a dot, which end at a place and begin not before the floor.
 fn put_dotted(
     buf: &mut [u8],
@@ -134,13 +167,13 @@ fn put_front(
     let mut class = row;
     let mut p = end;
     while 0 < i {
-        i -= 1;
-        match class_around(tables, layout, i, class) {
-            Around::Class(outer) => match class_own_name(tables, strings, layout, outer) {
+        match last_around(tables, layout, i, class) {
+            Outer::Nested(outer, at) => match class_own_name(tables, strings, layout, outer) {
                 Name::At { start, len } => match put_dotted(buf, floor, p, strings, start, len) {
                     Spot::From(q) => {
                         p = q;
                         class = outer;
+                        i = at;
                     }
                     Spot::NoRoom => {
                         return Spot::NoRoom;
@@ -150,7 +183,9 @@ fn put_front(
                     return Spot::From(p);
                 }
             },
-            Around::NoClass => {}
+            Outer::Outermost => {
+                i = 0;
+            }
         }
     }
     match class_string(

@@ -2,14 +2,14 @@ use native.Mathlib.Omega.{arith}
 use borrow.Author.Needs.{needs}
 use Rattle.backwards.proofs.Laws.{placed-from, placed-none}
 use Rattle.names.proofs.Leaves.{shown-at, shown-missing}
-use Rattle.names.proofs.Pass.{Passing, pass-start, pass-stay, pass-in, pass-full, pass-bare, pass-own, pass-none}
+use Rattle.names.proofs.Pass.{Passing, pass-start, pass-out, pass-less, pass-in, pass-full, pass-bare, pass-own, pass-none}
 use Rattle.names.proofs.put_front.Statement.{statement}
 use Rattle.names.proofs.put_front.Tie as tie
 use Rattle.names.proofs.put_front.Reads as reads
 use Rattle.names.proofs.put_front.Lts as lts
-use Rattle.names.proofs.class_around.Reads as class-around-reads
 use Rattle.names.proofs.class_own_name.Reads as class-own-name-reads
 use Rattle.names.proofs.class_string.Reads as class-string-reads
+use Rattle.names.proofs.last_around.Reads as last-around-reads
 use Rattle.names.proofs.put_dotted.Reads as put-dotted-reads
 use Rattle.rows.proofs.count_rows.Reads as count-rows-reads
 
@@ -19,35 +19,31 @@ Inv-loop buf₀ floor end tables strings layout i₀ class₀ p₀ buf i class p
 abbrev μ-loop : tie.MeasureT-loop
 μ-loop buf₀ floor end tables strings layout i₀ class₀ p₀ buf i class p = i
 
--- src/lib.rt:133:9
+-- src/lib.rt:166:9
 count-rows-requires : tie.Need-count-rows-requires Inv-loop μ-loop
 count-rows-requires c κs = search needs
 
--- src/lib.rt:136:5
+-- src/lib.rt:169:5
 loop-holds : tie.Need-loop-holds Inv-loop μ-loop
 loop-holds c = pass-start _ _ _ _ _ _ _ _ (c .count-rows .ensures) (c .before .before .before .before .pre .1 .0)
 
--- src/lib.rt:137:9
-sub-i : tie.Need-sub-i Inv-loop μ-loop
-sub-i c = search needs
+-- src/lib.rt:170:15
+last-around-requires : tie.Need-last-around-requires Inv-loop μ-loop
+last-around-requires c κs = search needs
 
--- src/lib.rt:138:15
-class-around-requires : tie.Need-class-around-requires Inv-loop μ-loop
-class-around-requires c κs = search needs
-
--- src/lib.rt:139:27
+-- src/lib.rt:171:27
 enum-known-outer : tie.Need-enum-known-outer Inv-loop μ-loop
 enum-known-outer c = search needs
 
--- src/lib.rt:139:43
+-- src/lib.rt:171:47
 class-own-name-requires : tie.Need-class-own-name-requires Inv-loop μ-loop
 class-own-name-requires c κs = search needs
 
--- src/lib.rt:140:28
+-- src/lib.rt:172:28
 enum-known-start : tie.Need-enum-known-start Inv-loop μ-loop
 enum-known-start c = search needs
 
--- src/lib.rt:140:50
+-- src/lib.rt:172:50
 put-dotted-requires : tie.Need-put-dotted-requires Inv-loop μ-loop
 put-dotted-requires c κs =
     let named = c .before .before in
@@ -55,96 +51,101 @@ put-dotted-requires c κs =
     let s = in-loop .before .loop .inv in
     (s .behind .low, omega (arith, s .behind .place, s .behind .long), shown-at (named .before .before .class-own-name .ensures) (named .start .given .1) .1)
 
--- src/lib.rt:141:32
+-- src/lib.rt:173:32
 enum-known-q : tie.Need-enum-known-q Inv-loop μ-loop
 enum-known-q c = search needs
 
--- src/lib.rt:136:5
+-- src/lib.rt:169:5
 loop-less : tie.Need-loop-less Inv-loop μ-loop
-loop-less c = search needs
+loop-less c =
+    let put = c .before .before .before .before .before in
+    let outer = put .before .before .before .before .before .before .before in
+    let around = outer .before .before in
+    pass-less _ _ _ (around .before .before .loop .inv) (around .last-around .ensures) (outer .outer .given .1)
 
--- src/lib.rt:136:5
+-- src/lib.rt:169:5
 loop-again : tie.Need-loop-again Inv-loop μ-loop
 loop-again c =
     let put = c .before .before .before .before .before in
     let named = put .before .before .before in
     let outer = named .before .before .before .before in
     let around = outer .before .before in
-    pass-in _ _ _ (around .before .before .loop .inv) (around .before .loop-test .taken) (around .class-around .ensures) (outer .outer .given .1)
+    pass-in _ _ _ (around .before .before .loop .inv) (around .last-around .ensures) (outer .outer .given .1)
     _ (shown-at (named .before .before .class-own-name .ensures) (named .start .given .1) .0) (placed-from _ (put .put-dotted .ensures) (c .before .q .given .1))
 
--- src/lib.rt:146:25
+-- src/lib.rt:179:25
 enum-told : tie.Need-enum-told Inv-loop μ-loop
 enum-told c = search needs
 
--- src/lib.rt:146:25
+-- src/lib.rt:179:25
 same-length : tie.Need-same-length Inv-loop μ-loop
 same-length c = search needs
 
--- src/lib.rt:146:25
+-- src/lib.rt:179:25
 returns : tie.Need-returns Inv-loop μ-loop
 returns c =
     let put = c .before .before .before .before in
     let named = put .before .before .before in
     let outer = named .before .before .before .before in
     let around = outer .before .before in
-    pass-full _ _ _ (around .before .before .loop .inv) (around .before .loop-test .taken) (around .class-around .ensures) (outer .outer .given .1)
+    pass-full _ _ _ (around .before .before .loop .inv) (around .last-around .ensures) (outer .outer .given .1)
     _ (shown-at (named .before .before .class-own-name .ensures) (named .start .given .1) .0) (placed-none _ (put .put-dotted .ensures) (c .enum-told .given .1))
 
--- src/lib.rt:150:21
+-- src/lib.rt:183:21
 enum-told-2 : tie.Need-enum-told-2 Inv-loop μ-loop
 enum-told-2 c = search needs
 
--- src/lib.rt:150:21
+-- src/lib.rt:183:21
 same-length-2 : tie.Need-same-length-2 Inv-loop μ-loop
 same-length-2 c = search needs
 
--- src/lib.rt:150:21
+-- src/lib.rt:183:21
 returns-2 : tie.Need-returns-2 Inv-loop μ-loop
 returns-2 c =
     let named = c .before .before in
     let outer = named .before .before in
     let around = outer .before .before in
-    pass-bare _ _ _ (around .before .before .loop .inv) (around .before .loop-test .taken) (around .class-around .ensures) (outer .outer .given .1)
+    pass-bare _ _ _ (around .before .before .loop .inv) (around .last-around .ensures) (outer .outer .given .1)
     (shown-missing (named .class-own-name .ensures) (c .enum-told2 .given .1))
 
+-- src/lib.rt:187:17
 enum-told-3 : tie.Need-enum-told-3 Inv-loop μ-loop
 enum-told-3 c = search needs
 
--- src/lib.rt:136:5
+-- src/lib.rt:169:5
 loop-less-2 : tie.Need-loop-less-2 Inv-loop μ-loop
 loop-less-2 c = search needs
 
--- src/lib.rt:136:5
+-- src/lib.rt:169:5
 loop-again-2 : tie.Need-loop-again-2 Inv-loop μ-loop
 loop-again-2 c =
     let around = c .before .before in
-    pass-stay _ _ _ (around .before .before .loop .inv) (around .before .loop-test .taken) (around .class-around .ensures) (c .enum-told3 .given .1)
+    pass-out _ _ _ (around .before .before .loop .inv) (around .last-around .ensures) (c .enum-told3 .given .1)
 
--- src/lib.rt:156:11
+-- src/lib.rt:191:11
 class-string-requires : tie.Need-class-string-requires Inv-loop μ-loop
 class-string-requires c κs = search needs
 
--- src/lib.rt:163:20
+-- src/lib.rt:198:20
 enum-known-start-2 : tie.Need-enum-known-start-2 Inv-loop μ-loop
 enum-known-start-2 c = search needs
 
--- src/lib.rt:163:36
+-- src/lib.rt:198:36
 put-dotted-requires-2 : tie.Need-put-dotted-requires-2 Inv-loop μ-loop
 put-dotted-requires-2 c κs =
     let own = c .before .before in
     let s = own .before .before .before .before .loop .inv in
     (s .behind .low, omega (arith, s .behind .place, s .behind .long), shown-at (own .before .before .class-string .ensures) (own .start2 .given .1) .1)
 
--- src/lib.rt:164:26
+-- src/lib.rt:199:26
 enum-told-4 : tie.Need-enum-told-4 Inv-loop μ-loop
 enum-told-4 c = search needs
 
--- src/lib.rt:120:1
+-- src/lib.rt:153:1
 same-length-3 : tie.Need-same-length-3 Inv-loop μ-loop
 same-length-3 c = search needs
 
--- src/lib.rt:120:1
+-- src/lib.rt:153:1
 returns-3 : tie.Need-returns-3 Inv-loop μ-loop
 returns-3 c =
     let put = c .before .before in
@@ -153,11 +154,11 @@ returns-3 c =
     pass-own _ _ _ (at .before .before .loop .inv) (at .before .loop-test .left) _ _ (put .put-dotted2 .result)
     (shown-at (at .class-string .ensures) (own .start2 .given .1) .0) (put .put-dotted2 .ensures)
 
--- src/lib.rt:120:1
+-- src/lib.rt:153:1
 same-length-4 : tie.Need-same-length-4 Inv-loop μ-loop
 same-length-4 c = search needs
 
--- src/lib.rt:120:1
+-- src/lib.rt:153:1
 returns-4 : tie.Need-returns-4 Inv-loop μ-loop
 returns-4 c =
     let at = c .before .before in
@@ -171,8 +172,7 @@ put-front-spec =
     μ-loop
     count-rows-requires
     loop-holds
-    sub-i
-    class-around-requires
+    last-around-requires
     enum-known-outer
     class-own-name-requires
     enum-known-start
