@@ -181,17 +181,19 @@ module _ {v : View} {heap : List ℕ} {m : ℕ} {d : Option Signature} {b b′ :
 -- ---- Within a class's methods
 
 module _ (v : View) (m c first end : ℕ) where
-  pub within-before : m < first → readWithin v m c first end ≡ none
+  within-before : m < first → readWithin v m c first end ≡ none
   unfolding readWithin
   within-before h = rw (lt-leb first m h)
 
-  pub within-past : first ≤ m → end ≤ m → readWithin v m c first end ≡ none
-  unfolding readWithin
-  within-past h k = rw (le-leb first m h, le-ltb m end k)
+  -- By what the code tests.
+  module _ {b : Bool} (e : b ≡ (leb first m && ltb m end)) where
+    pub within-none : b ≡ false → readWithin v m c first end ≡ none
+    unfolding readWithin
+    within-none f = rw (sym e ∙ f)
 
-  pub within-inside : first ≤ m → m < end → readWithin v m c first end ≡ readBy v m c
-  unfolding readWithin
-  within-inside h k = rw (le-leb first m h, lt-ltb m end k)
+    pub within-has : b ≡ true → readWithin v m c first end ≡ readBy v m c
+    unfolding readWithin
+    within-has f = rw (sym e ∙ f)
 
 -- ---- The scan for the class whose reading stands
 

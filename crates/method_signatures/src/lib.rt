@@ -11,8 +11,10 @@ use rows::columns;
 use sig_leaves::LEVELS;
 use sig_leaves::Owner;
 ghost use mathlib.Core.Path.{_≡_};
+ghost use mathlib.Core.Bool.{_&&_};
 ghost use mathlib.Core.List.{List};
 ghost use Prim.Native.Nat.{ℕ, _<_};
+ghost use lib.Dec.{leb, ltb};
 ghost use lib.ListN.{length};
 ghost use Rattle.buffers.specs.Writes.{Said, placeSays};
 ghost use Rattle.buffers.specs.Replies.{nameOr5, Named};
@@ -90,7 +92,14 @@ fn read_by(
     }
 }
 
-// The same if the methods from first up to an end, which the class reads, have m.
+// Whether the methods from first up to an end have m.
+fn has_method(first: usize, end: usize, m: usize) -> bool
+    ensures { λ r. ⌜ r ≡ (leb first m && ltb m end) ⌝ }
+{
+    first <= m && m < end
+}
+
+// Class c's reading if the methods from first up to an end, which it reads, have m.
 fn read_within(
     buf: &mut [u8],
     tables: &[u8],
@@ -106,13 +115,10 @@ fn read_within(
     requires { ⌜ (m < rowsAt (now layout) 9) × (class < 4294967296) ⌝ }
     ensures { λ r. ⌜ ReadingIs (viewIn (now (tables .entry)) (now (layout .entry)) (now (strings .entry)) (now (blob .entry))) (now (blob .entry)) m (readWithin (viewIn (now (tables .entry)) (now (layout .entry)) (now (strings .entry)) (now (blob .entry))) m class first end) (now (buf .entry)) (now (buf .exit)) r ⌝ }
 {
-    if m < first {
-        return Reading::Missing;
+    if has_method(first, end, m) {
+        return read_by(buf, tables, strings, blob, layout, m, class);
     }
-    if end <= m {
-        return Reading::Missing;
-    }
-    read_by(buf, tables, strings, blob, layout, m, class)
+    Reading::Missing
 }
 
 // A class before which none reads method m. Where MethodList is known to ascend, that is the last whose first method lies at or below m;
@@ -153,38 +159,33 @@ pub fn read_signature(
         let column = rows::read_column(tables, layout, columns::METHOD_LIST, row) as usize;
         row += 1;
         if column != 0 {
-            match read_within(
-                buf,
-                tables,
-                strings,
-                blob,
-                layout,
-                m,
-                class,
-                first,
-                column - 1,
-            ) {
-                Reading::Read {
-                    owner,
-                    start,
-                    len,
-                    next,
-                    count,
-                    end,
-                } => {
-                    return Reading::Read {
+            if has_method(first, column - 1, m) {
+                match read_by(buf, tables, strings, blob, layout, m, class) {
+                    Reading::Read {
                         owner,
                         start,
                         len,
                         next,
                         count,
                         end,
-                    };
+                    } => {
+                        return Reading::Read {
+                            owner,
+                            start,
+                            len,
+                            next,
+                            count,
+                            end,
+                        };
+                    }
+                    Reading::Missing => {
+                        class = row - 2;
+                        first = column - 1;
+                    }
                 }
-                Reading::Missing => {
-                    class = row - 2;
-                    first = column - 1;
-                }
+            } else {
+                class = row - 2;
+                first = column - 1;
             }
         }
     }
