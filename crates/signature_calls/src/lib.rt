@@ -1,41 +1,16 @@
 // The calls for what a method's signature says (ECMA-335 II.23.2.1): its return type, and how many parameters it has, with the type and
 // the name of each.
-use buffers::Refusal;
 use buffers::Reply;
 use classes::ClassNumber;
 use header::Opened;
 use header::Options;
-use listed::MethodRow;
-use rows::Layout;
+use method_answers::count_params_of;
+use method_answers::write_param_name_of;
+use method_answers::write_param_type_of;
+use method_answers::write_return_type_of;
 ghost use Rattle.buffers.specs.Replies.{Named};
 ghost use Rattle.record.specs.View.{view};
 ghost use Rattle.record.specs.Answers.{Numbered, returnType, parameterCount, parameterType, parameterName};
-ghost use Rattle.rows.specs.Layout.{Laid, viewIn};
-
-fn write_return_of(
-    buf: &mut [u8],
-    tables: &[u8],
-    strings: &[u8],
-    blob: &[u8],
-    layout: &Layout,
-    class: ClassNumber,
-    m: u32,
-) -> Reply
-    requires { ⌜ Laid (now tables) (now layout) ⌝ }
-    ensures { λ r. ⌜ Named (returnType (viewIn (now (tables .entry)) (now (layout .entry)) (now (strings .entry)) (now (blob .entry))) (class .0) m) (now (buf .entry)) r (now (buf .exit)) ⌝ }
-{
-    match listed::method_row(tables, layout, class, m) {
-        MethodRow::Row(i) => method_signatures::write_return_type(
-            buf,
-            tables,
-            strings,
-            blob,
-            layout,
-            i,
-        ),
-        MethodRow::NoRow => buffers::refuse(buf, Refusal::NoSuchRow),
-    }
-}
 
 // The return type of method m of a class.
 pub fn return_type(
@@ -54,30 +29,7 @@ pub fn return_type(
     let layout = opened.layout;
     match answer {
         Opened::Refused(why) => buffers::refuse(buf, why),
-        Opened::Ready => write_return_of(buf, tables, strings, blob, &layout, class, m),
-    }
-}
-
-fn count_of(
-    tables: &[u8],
-    strings: &[u8],
-    blob: &[u8],
-    layout: &Layout,
-    class: ClassNumber,
-    m: u32,
-) -> Reply
-    requires { ⌜ Laid (now tables) (now layout) ⌝ }
-    ensures { λ r. ⌜ Numbered (parameterCount (viewIn (now (tables .entry)) (now (layout .entry)) (now (strings .entry)) (now (blob .entry))) (class .0) m) r ⌝ }
-{
-    match listed::method_row(tables, layout, class, m) {
-        MethodRow::Row(i) => Reply::Is(method_signatures::count_params(
-            tables,
-            strings,
-            blob,
-            layout,
-            i,
-        )),
-        MethodRow::NoRow => Reply::No(Refusal::NoSuchRow),
+        Opened::Ready => write_return_type_of(buf, tables, strings, blob, &layout, class, m),
     }
 }
 
@@ -97,34 +49,7 @@ pub fn param_count(
     let layout = opened.layout;
     match answer {
         Opened::Refused(why) => Reply::No(why),
-        Opened::Ready => count_of(tables, strings, blob, &layout, class, m),
-    }
-}
-
-fn write_type_of(
-    buf: &mut [u8],
-    tables: &[u8],
-    strings: &[u8],
-    blob: &[u8],
-    layout: &Layout,
-    class: ClassNumber,
-    m: u32,
-    p: u32,
-) -> Reply
-    requires { ⌜ Laid (now tables) (now layout) ⌝ }
-    ensures { λ r. ⌜ Named (parameterType (viewIn (now (tables .entry)) (now (layout .entry)) (now (strings .entry)) (now (blob .entry))) (class .0) m p) (now (buf .entry)) r (now (buf .exit)) ⌝ }
-{
-    match listed::method_row(tables, layout, class, m) {
-        MethodRow::Row(i) => method_signatures::write_param_type(
-            buf,
-            tables,
-            strings,
-            blob,
-            layout,
-            i,
-            p,
-        ),
-        MethodRow::NoRow => buffers::refuse(buf, Refusal::NoSuchRow),
+        Opened::Ready => count_params_of(tables, strings, blob, &layout, class, m),
     }
 }
 
@@ -146,34 +71,7 @@ pub fn param_type(
     let layout = opened.layout;
     match answer {
         Opened::Refused(why) => buffers::refuse(buf, why),
-        Opened::Ready => write_type_of(buf, tables, strings, blob, &layout, class, m, p),
-    }
-}
-
-fn write_name_of(
-    buf: &mut [u8],
-    tables: &[u8],
-    strings: &[u8],
-    blob: &[u8],
-    layout: &Layout,
-    class: ClassNumber,
-    m: u32,
-    p: u32,
-) -> Reply
-    requires { ⌜ Laid (now tables) (now layout) ⌝ }
-    ensures { λ r. ⌜ Named (parameterName (viewIn (now (tables .entry)) (now (layout .entry)) (now (strings .entry)) (now (blob .entry))) (class .0) m p) (now (buf .entry)) r (now (buf .exit)) ⌝ }
-{
-    match listed::method_row(tables, layout, class, m) {
-        MethodRow::Row(i) => method_signatures::write_param_name(
-            buf,
-            tables,
-            strings,
-            blob,
-            layout,
-            i,
-            p,
-        ),
-        MethodRow::NoRow => buffers::refuse(buf, Refusal::NoSuchRow),
+        Opened::Ready => write_param_type_of(buf, tables, strings, blob, &layout, class, m, p),
     }
 }
 
@@ -195,6 +93,6 @@ pub fn param_name(
     let layout = opened.layout;
     match answer {
         Opened::Refused(why) => buffers::refuse(buf, why),
-        Opened::Ready => write_name_of(buf, tables, strings, blob, &layout, class, m, p),
+        Opened::Ready => write_param_name_of(buf, tables, strings, blob, &layout, class, m, p),
     }
 }

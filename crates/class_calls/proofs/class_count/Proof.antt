@@ -11,27 +11,27 @@ use Rattle.class_calls.proofs.class_count.Lts as lts
 use Rattle.listed.proofs.count_classes.Reads as count-classes-reads
 use Rattle.opening.proofs.open.Reads as open-reads
 
--- src/lib.rt:22:9
+-- src/lib.rt:16:9
 open-requires : tie.Need-open-requires
 open-requires c κs = search needs
 
--- src/lib.rt:26:25
+-- src/lib.rt:20:25
 enum-known-answer : tie.Need-enum-known-answer
 enum-known-answer c = search needs
 
--- src/lib.rt:27:58
+-- src/lib.rt:21:58
 enum-told : tie.Need-enum-told
 enum-told c = search needs
 
--- src/lib.rt:27:36
+-- src/lib.rt:21:36
 count-classes-requires : tie.Need-count-classes-requires
 count-classes-requires c κs = search needs
 
--- src/lib.rt:19:1
+-- src/lib.rt:13:1
 returns : tie.Need-returns
 returns c = number-refused _ _ (c .before .before .before .before .«open» .ensures) (c .before .answer .given .1) ClassCount
 
--- src/lib.rt:19:1
+-- src/lib.rt:13:1
 returns-2 : tie.Need-returns-2
 returns-2 c =
     let opened = c .before .before .before .before .before .«open» .ensures in

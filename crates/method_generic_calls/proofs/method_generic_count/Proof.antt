@@ -6,34 +6,34 @@ use Rattle.method_generic_calls.proofs.method_generic_count.Statement.{
 use Rattle.method_generic_calls.proofs.method_generic_count.Tie as tie
 use Rattle.method_generic_calls.proofs.method_generic_count.Reads as reads
 use Rattle.method_generic_calls.proofs.method_generic_count.Lts as lts
-use Rattle.method_generic_calls.proofs.count_of.Reads as count-of-reads
+use Rattle.method_answers.proofs.count_method_generics_of.Reads as count-method-generics-of-reads
 use Rattle.opening.proofs.open.Reads as open-reads
 
--- src/lib.rt:37:9
+-- src/lib.rt:23:9
 open-requires : tie.Need-open-requires
 open-requires c κs = search needs
 
--- src/lib.rt:41:25
+-- src/lib.rt:27:25
 enum-known-answer : tie.Need-enum-known-answer
 enum-known-answer c = search needs
 
--- src/lib.rt:42:43
+-- src/lib.rt:28:59
 enum-told : tie.Need-enum-told
 enum-told c = search needs
 
--- src/lib.rt:42:26
-count-of-requires : tie.Need-count-of-requires
-count-of-requires c κs = opened-laid (c .before .before .before .before .«open» .ensures) (c .before .enum-told .given .1)
+-- src/lib.rt:28:26
+count-method-generics-of-requires : tie.Need-count-method-generics-of-requires
+count-method-generics-of-requires c κs = opened-laid (c .before .before .before .before .«open» .ensures) (c .before .enum-told .given .1)
 
--- src/lib.rt:27:1
+-- src/lib.rt:13:1
 returns : tie.Need-returns
 returns c = number-refused _ _ (c .before .before .before .before .«open» .ensures) (c .before .answer .given .1) (MethodGenericCount _ _)
 
--- src/lib.rt:27:1
+-- src/lib.rt:13:1
 returns-2 : tie.Need-returns-2
-returns-2 c = number-ready _ _ (c .before .before .before .before .before .«open» .ensures) (c .before .before .enum-told .given .1) (MethodGenericCount _ _) (c .count-of .result) (c .count-of .ensures _ _)
+returns-2 c = number-ready _ _ (c .before .before .before .before .before .«open» .ensures) (c .before .before .enum-told .given .1) (MethodGenericCount _ _) (c .count-method-generics-of .result) (c .count-method-generics-of .ensures _ _)
 
 pub method-generic-count-spec : {M : Type 1} → statement M
 method-generic-count-spec =
     tie.close
-    (tie.spec open-requires enum-known-answer enum-told count-of-requires returns returns-2)
+    (tie.spec open-requires enum-known-answer enum-told count-method-generics-of-requires returns returns-2)

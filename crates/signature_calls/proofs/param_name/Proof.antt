@@ -8,36 +8,36 @@ use Rattle.signature_calls.proofs.param_name.Reads as reads
 use Rattle.signature_calls.proofs.param_name.Lts as lts
 use Rattle.buffers.proofs.refuse.Reads as refuse-reads
 use Rattle.opening.proofs.open.Reads as open-reads
-use Rattle.signature_calls.proofs.write_name_of.Reads as write-name-of-reads
+use Rattle.method_answers.proofs.write_param_name_of.Reads as write-param-name-of-reads
 
--- src/lib.rt:193:9
+-- src/lib.rt:91:9
 open-requires : tie.Need-open-requires
 open-requires c κs = search needs
 
--- src/lib.rt:197:25
+-- src/lib.rt:95:25
 enum-known-answer : tie.Need-enum-known-answer
 enum-known-answer c = search needs
 
--- src/lib.rt:197:33
+-- src/lib.rt:95:33
 refuse-requires : tie.Need-refuse-requires
 refuse-requires c κs = search needs
 
--- src/lib.rt:198:40
+-- src/lib.rt:96:46
 enum-told : tie.Need-enum-told
 enum-told c = search needs
 
--- src/lib.rt:198:26
-write-name-of-requires : tie.Need-write-name-of-requires
-write-name-of-requires c κs =
+-- src/lib.rt:96:26
+write-param-name-of-requires : tie.Need-write-param-name-of-requires
+write-param-name-of-requires c κs =
     let at-enum-told = c .before .before in
     let at-open = at-enum-told .before .before .before in
     opened-laid (at-open .«open» .ensures) (at-enum-told .enum-told .given .1)
 
--- src/lib.rt:181:1
+-- src/lib.rt:79:1
 same-length : tie.Need-same-length
 same-length c = search needs
 
--- src/lib.rt:181:1
+-- src/lib.rt:79:1
 returns : tie.Need-returns
 returns c =
     let at-refuse = c .before .before in
@@ -45,17 +45,17 @@ returns c =
     let at-open = at-answer .before .before .before in
     name-refused _ _ (at-open .«open» .ensures) (at-answer .answer .given .1) (ParameterName _ _ _) (at-refuse .refuse .ensures)
 
--- src/lib.rt:181:1
+-- src/lib.rt:79:1
 same-length-2 : tie.Need-same-length-2
 same-length-2 c = search needs
 
--- src/lib.rt:181:1
+-- src/lib.rt:79:1
 returns-2 : tie.Need-returns-2
 returns-2 c =
-    let at-write-name-of = c .before .before in
-    let at-enum-told = at-write-name-of .before .before .before in
+    let at-write-param-name-of = c .before .before in
+    let at-enum-told = at-write-param-name-of .before .before .before in
     let at-open = at-enum-told .before .before .before in
-    name-ready _ _ (at-open .«open» .ensures) (at-enum-told .enum-told .given .1) (ParameterName _ _ _) (at-write-name-of .write-name-of .ensures)
+    name-ready _ _ (at-open .«open» .ensures) (at-enum-told .enum-told .given .1) (ParameterName _ _ _) (at-write-param-name-of .write-param-name-of .ensures)
 
 pub param-name-spec : {M : Type 1} → statement M
 param-name-spec =
@@ -65,7 +65,7 @@ param-name-spec =
     enum-known-answer
     refuse-requires
     enum-told
-    write-name-of-requires
+    write-param-name-of-requires
     same-length
     returns
     same-length-2

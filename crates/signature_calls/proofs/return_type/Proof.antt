@@ -8,36 +8,36 @@ use Rattle.signature_calls.proofs.return_type.Reads as reads
 use Rattle.signature_calls.proofs.return_type.Lts as lts
 use Rattle.buffers.proofs.refuse.Reads as refuse-reads
 use Rattle.opening.proofs.open.Reads as open-reads
-use Rattle.signature_calls.proofs.write_return_of.Reads as write-return-of-reads
+use Rattle.method_answers.proofs.write_return_type_of.Reads as write-return-type-of-reads
 
--- src/lib.rt:52:9
+-- src/lib.rt:27:9
 open-requires : tie.Need-open-requires
 open-requires c κs = search needs
 
--- src/lib.rt:56:25
+-- src/lib.rt:31:25
 enum-known-answer : tie.Need-enum-known-answer
 enum-known-answer c = search needs
 
--- src/lib.rt:56:33
+-- src/lib.rt:31:33
 refuse-requires : tie.Need-refuse-requires
 refuse-requires c κs = search needs
 
--- src/lib.rt:57:42
+-- src/lib.rt:32:47
 enum-told : tie.Need-enum-told
 enum-told c = search needs
 
--- src/lib.rt:57:26
-write-return-of-requires : tie.Need-write-return-of-requires
-write-return-of-requires c κs =
+-- src/lib.rt:32:26
+write-return-type-of-requires : tie.Need-write-return-type-of-requires
+write-return-type-of-requires c κs =
     let at-enum-told = c .before .before in
     let at-open = at-enum-told .before .before .before in
     opened-laid (at-open .«open» .ensures) (at-enum-told .enum-told .given .1)
 
--- src/lib.rt:41:1
+-- src/lib.rt:16:1
 same-length : tie.Need-same-length
 same-length c = search needs
 
--- src/lib.rt:41:1
+-- src/lib.rt:16:1
 returns : tie.Need-returns
 returns c =
     let at-refuse = c .before .before in
@@ -45,17 +45,17 @@ returns c =
     let at-open = at-answer .before .before .before in
     name-refused _ _ (at-open .«open» .ensures) (at-answer .answer .given .1) (ReturnType _ _) (at-refuse .refuse .ensures)
 
--- src/lib.rt:41:1
+-- src/lib.rt:16:1
 same-length-2 : tie.Need-same-length-2
 same-length-2 c = search needs
 
--- src/lib.rt:41:1
+-- src/lib.rt:16:1
 returns-2 : tie.Need-returns-2
 returns-2 c =
-    let at-write-return-of = c .before .before in
-    let at-enum-told = at-write-return-of .before .before .before in
+    let at-write-return-type-of = c .before .before in
+    let at-enum-told = at-write-return-type-of .before .before .before in
     let at-open = at-enum-told .before .before .before in
-    name-ready _ _ (at-open .«open» .ensures) (at-enum-told .enum-told .given .1) (ReturnType _ _) (at-write-return-of .write-return-of .ensures)
+    name-ready _ _ (at-open .«open» .ensures) (at-enum-told .enum-told .given .1) (ReturnType _ _) (at-write-return-type-of .write-return-type-of .ensures)
 
 pub return-type-spec : {M : Type 1} → statement M
 return-type-spec =
@@ -65,7 +65,7 @@ return-type-spec =
     enum-known-answer
     refuse-requires
     enum-told
-    write-return-of-requires
+    write-return-type-of-requires
     same-length
     returns
     same-length-2

@@ -1,0 +1,78 @@
+use mathlib.Core.List.{[]}
+use mathlib.Core.Path.{refl}
+use native.Mathlib.Omega.{arith}
+use Rattle.listed.proofs.Laws.{method-found, method-missed}
+use Rattle.listed.proofs.Values.{method-inside, method-parameter-name, no-method-parameter-name}
+use borrow.Author.Needs.{needs}
+use Rattle.method_answers.proofs.write_param_name_of.Statement.{statement}
+use Rattle.method_answers.proofs.write_param_name_of.Tie as tie
+use Rattle.method_answers.proofs.write_param_name_of.Reads as reads
+use Rattle.method_answers.proofs.write_param_name_of.Lts as lts
+use Rattle.buffers.proofs.refuse.Reads as refuse-reads
+use Rattle.listed.proofs.method_row.Reads as method-row-reads
+use Rattle.method_signatures.proofs.write_param_name.Reads as write-param-name-reads
+
+-- src/lib.rt:188:11
+method-row-requires : tie.Need-method-row-requires
+method-row-requires c κs = search needs
+
+-- src/lib.rt:189:24
+enum-known-i : tie.Need-enum-known-i
+enum-known-i c = search needs
+
+-- src/lib.rt:189:30
+write-param-name-requires : tie.Need-write-param-name-requires
+write-param-name-requires c κs =
+    let at-i = c .before .before in
+    let at-method-row = at-i .before .before in
+    let start = at-method-row .before .before .before .before .before in
+    let at = method-found (at-method-row .method-row .ensures [] []) (at-i .i .given .1) in
+    (start .pre, method-inside (start .pre) [] [] _ _ at 9 (omega arith) refl)
+
+-- src/lib.rt:198:45
+enum-told : tie.Need-enum-told
+enum-told c = search needs
+
+-- src/lib.rt:198:29
+refuse-requires : tie.Need-refuse-requires
+refuse-requires c κs = search needs
+
+-- src/lib.rt:175:1
+same-length : tie.Need-same-length
+same-length c = search needs
+
+-- src/lib.rt:175:1
+returns : tie.Need-returns
+returns c =
+    let at-write-param-name = c .before .before in
+    let at-i = at-write-param-name .before .before .before in
+    let at-method-row = at-i .before .before in
+    let start = at-method-row .before .before .before .before .before in
+    method-parameter-name (start .pre) _ _ _ _ (method-found (at-method-row .method-row .ensures _ _) (at-i .i .given .1)) _ (at-write-param-name .write-param-name .ensures)
+
+-- src/lib.rt:175:1
+same-length-2 : tie.Need-same-length-2
+same-length-2 c = search needs
+
+-- src/lib.rt:175:1
+returns-2 : tie.Need-returns-2
+returns-2 c =
+    let at-refuse = c .before .before in
+    let at-enum-told = at-refuse .before .before in
+    let at-method-row = at-enum-told .before .before in
+    let start = at-method-row .before .before .before .before .before in
+    no-method-parameter-name (start .pre) _ _ _ _ (method-missed (at-method-row .method-row .ensures _ _) (at-enum-told .enum-told .given .1)) (at-refuse .refuse .ensures) _
+
+pub write-param-name-of-spec : {M : Type 1} → statement M
+write-param-name-of-spec =
+    tie.close
+    (tie.spec
+    method-row-requires
+    enum-known-i
+    write-param-name-requires
+    enum-told
+    refuse-requires
+    same-length
+    returns
+    same-length-2
+    returns-2)
