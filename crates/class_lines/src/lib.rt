@@ -1,15 +1,21 @@
 // The lines that stand for a whole class, one function to a place of the cursor: where the walk was left, how many classes there are,
-// and of each class its name, flags, generic parameters and base types.
+// and of each class its name, flags, generic parameters and base types; all but the first by the layout of an opened stream.
 use buffers::Reply;
+use class_answers::class_flags_of;
+use class_answers::write_base_name;
+use class_answers::write_class_name;
+use class_answers::write_generic_name;
 use classes::ClassNumber;
 use header::Options;
 use lines::Place;
 use lines::Step;
 use lines::cursor_at;
 use lines::next_number;
+use rows::Layout;
 ghost use Prim.Native.Nat.{ℕ};
 ghost use Rattle.buffers.specs.Replies.{replySays};
 ghost use Rattle.record.specs.View.{view};
+ghost use Rattle.rows.specs.Layout.{Laid, viewIn};
 ghost use Rattle.lines.specs.Cursors.{cursor, stopLine, afterStop, Went, Stepped};
 ghost use Rattle.lines.specs.declared.Place.the-variants.{Stop, Classes, Class, Flags, Generic, Base};
 
@@ -43,7 +49,7 @@ pub fn stop_line(
 ) -> Step
     ensures { λ r. ⌜ ((c m i : ℕ) → Stepped (view options (now (tables .entry)) (now (strings .entry)) (now (blob .entry))) (cursor Stop c m i) (now (out .entry)) at (now (out .exit)) r) ⌝ }
 {
-    let walk = dotnet::walk_with(tables, options);
+    let walk = walks::walk_with(tables, options);
     let answer = walk.answer;
     stop_step(out, at, answer)
 }
@@ -53,13 +59,14 @@ pub fn classes_line(
     tables: &[u8],
     strings: &[u8],
     blob: &[u8],
-    options: Options,
+    layout: &Layout,
     out: &mut [u8],
     at: usize,
 ) -> Step
-    ensures { λ r. ⌜ ((c m i : ℕ) → Stepped (view options (now (tables .entry)) (now (strings .entry)) (now (blob .entry))) (cursor Classes c m i) (now (out .entry)) at (now (out .exit)) r) ⌝ }
+    requires { ⌜ Laid (now tables) (now layout) ⌝ }
+    ensures { λ r. ⌜ ((c m i : ℕ) → Stepped (viewIn (now (tables .entry)) (now (layout .entry)) (now (strings .entry)) (now (blob .entry))) (cursor Classes c m i) (now (out .entry)) at (now (out .exit)) r) ⌝ }
 {
-    let reply = dotnet::class_count(tables, strings, blob, options);
+    let reply = Reply::Is(listed::count_classes(layout));
     lines::number_step(
         out,
         at,
@@ -74,22 +81,16 @@ pub fn class_line(
     tables: &[u8],
     strings: &[u8],
     blob: &[u8],
-    options: Options,
+    layout: &Layout,
     class: u32,
     out: &mut [u8],
     at: usize,
 ) -> Step
-    ensures { λ r. ⌜ ((m i : ℕ) → Stepped (view options (now (tables .entry)) (now (strings .entry)) (now (blob .entry))) (cursor Class class m i) (now (out .entry)) at (now (out .exit)) r) ⌝ }
+    requires { ⌜ Laid (now tables) (now layout) ⌝ }
+    ensures { λ r. ⌜ ((m i : ℕ) → Stepped (viewIn (now (tables .entry)) (now (layout .entry)) (now (strings .entry)) (now (blob .entry))) (cursor Class class m i) (now (out .entry)) at (now (out .exit)) r) ⌝ }
 {
     let mut name = [0u8; LONGEST];
-    let reply = dotnet::class_name(
-        tables,
-        strings,
-        blob,
-        options,
-        ClassNumber(class),
-        &mut name,
-    );
+    let reply = write_class_name(&mut name, tables, strings, layout, ClassNumber(class));
     let more = cursor_at(Place::Flags, class, 0, 0);
     let past = cursor_at(Place::Done, 0, 0, 0);
     lines::name_step(out, at, b"class=", reply, &name, more, past)
@@ -100,14 +101,15 @@ pub fn flags_line(
     tables: &[u8],
     strings: &[u8],
     blob: &[u8],
-    options: Options,
+    layout: &Layout,
     class: u32,
     out: &mut [u8],
     at: usize,
 ) -> Step
-    ensures { λ r. ⌜ ((m i : ℕ) → Stepped (view options (now (tables .entry)) (now (strings .entry)) (now (blob .entry))) (cursor Flags class m i) (now (out .entry)) at (now (out .exit)) r) ⌝ }
+    requires { ⌜ Laid (now tables) (now layout) ⌝ }
+    ensures { λ r. ⌜ ((m i : ℕ) → Stepped (viewIn (now (tables .entry)) (now (layout .entry)) (now (strings .entry)) (now (blob .entry))) (cursor Flags class m i) (now (out .entry)) at (now (out .exit)) r) ⌝ }
 {
-    let reply = dotnet::class_flags(tables, strings, blob, options, ClassNumber(class));
+    let reply = class_flags_of(tables, layout, ClassNumber(class));
     lines::number_step(
         out,
         at,
@@ -122,24 +124,17 @@ pub fn generic_line(
     tables: &[u8],
     strings: &[u8],
     blob: &[u8],
-    options: Options,
+    layout: &Layout,
     class: u32,
     i: u32,
     out: &mut [u8],
     at: usize,
 ) -> Step
-    ensures { λ r. ⌜ ((m : ℕ) → Stepped (view options (now (tables .entry)) (now (strings .entry)) (now (blob .entry))) (cursor Generic class m i) (now (out .entry)) at (now (out .exit)) r) ⌝ }
+    requires { ⌜ Laid (now tables) (now layout) ⌝ }
+    ensures { λ r. ⌜ ((m : ℕ) → Stepped (viewIn (now (tables .entry)) (now (layout .entry)) (now (strings .entry)) (now (blob .entry))) (cursor Generic class m i) (now (out .entry)) at (now (out .exit)) r) ⌝ }
 {
     let mut name = [0u8; LONGEST];
-    let reply = dotnet::generic_name(
-        tables,
-        strings,
-        blob,
-        options,
-        ClassNumber(class),
-        i,
-        &mut name,
-    );
+    let reply = write_generic_name(&mut name, tables, strings, layout, ClassNumber(class), i);
     let more = cursor_at(Place::Generic, class, 0, next_number(i));
     let past = cursor_at(Place::Base, class, 0, 0);
     lines::name_step(out, at, b"generic=", reply, &name, more, past)
@@ -150,23 +145,24 @@ pub fn base_line(
     tables: &[u8],
     strings: &[u8],
     blob: &[u8],
-    options: Options,
+    layout: &Layout,
     class: u32,
     i: u32,
     out: &mut [u8],
     at: usize,
 ) -> Step
-    ensures { λ r. ⌜ ((m : ℕ) → Stepped (view options (now (tables .entry)) (now (strings .entry)) (now (blob .entry))) (cursor Base class m i) (now (out .entry)) at (now (out .exit)) r) ⌝ }
+    requires { ⌜ Laid (now tables) (now layout) ⌝ }
+    ensures { λ r. ⌜ ((m : ℕ) → Stepped (viewIn (now (tables .entry)) (now (layout .entry)) (now (strings .entry)) (now (blob .entry))) (cursor Base class m i) (now (out .entry)) at (now (out .exit)) r) ⌝ }
 {
     let mut name = [0u8; LONGEST];
-    let reply = dotnet::base_name(
+    let reply = write_base_name(
+        &mut name,
         tables,
         strings,
         blob,
-        options,
+        layout,
         ClassNumber(class),
         i,
-        &mut name,
     );
     let more = cursor_at(Place::Base, class, 0, next_number(i));
     let past = cursor_at(Place::Method, class, 0, 0);

@@ -31,6 +31,11 @@ pub at-place : (v : View) (c : Cursor) {p : Place} {o o′ : List ℕ} {at : ℕ
 unfolding lineAt nextAt
 at-place v c e w = rw e w
 
+-- The same by a view that is equal.
+pub at-view : {v w : View} → v ≡ w → (c : Cursor) {p : Place} {o o′ : List ℕ} {at : ℕ} {s : Step}
+    → c .place ≡ p → Stepped v (cursor p (c .class) (c .method) (c .i)) o at o′ s → Stepped w c o at o′ s
+at-view same c {p} {o} {o′} {at} {s} e g = at-place _ c e (subst (λ v. Stepped v (cursor p (c .class) (c .method) (c .i)) o at o′ s) same g)
+
 -- One step of a piece.
 either-same : (b : Bool) (p : Piece) → cond b p p ≡ p
 either-same true p = refl
@@ -45,7 +50,7 @@ module _ (v : View) (room : ℕ) (t : Text) (c : Cursor) where
   no-steps zero h = refl
   no-steps (suc n) h = absurd (omega arith)
 
-  is-done : (n : ℕ) → isDone (c .place) ≡ true → pieceFrom v room n t c ≡ ends
+  pub is-done : (n : ℕ) → isDone (c .place) ≡ true → pieceFrom v room n t c ≡ ends
   unfolding pieceFrom
   is-done zero e = refl
   is-done (suc n) e = rw e
@@ -55,7 +60,7 @@ module _ (v : View) (room : ℕ) (t : Text) (c : Cursor) where
   is-full zero h = refl
   is-full (suc n) h = rw (lt-leb _ _ h) (either-same (isDone (c .place)) ends)
 
-  goes-on : (n : ℕ) → 0 < n → isDone (c .place) ≡ false → length (t ++ lineAt v c) ≤ room
+  pub goes-on : (n : ℕ) → 0 < n → isDone (c .place) ≡ false → length (t ++ lineAt v c) ≤ room
       → pieceFrom v room n t c ≡ pieceFrom v room (n - 1) (t ++ lineAt v c) (nextAt v c)
   unfolding pieceFrom
   goes-on zero l e h = absurd (omega arith)

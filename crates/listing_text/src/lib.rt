@@ -2,16 +2,21 @@
 // and both over a program's input.
 use buffers::Refusal;
 use bundle::Bundle;
+use header::Opened;
 use header::Options;
 use lines::Cursor;
 use lines::Place;
 use lines::Step;
+use rows::Layout;
 ghost use mathlib.Core.Path.{_≡_};
 ghost use mathlib.Core.List.{List};
 ghost use Prim.Native.Nat.{ℕ};
 ghost use lib.ListN.{length};
+ghost use Rattle.header.specs.Opening.{opened};
 ghost use Rattle.header.specs.declared.Options.{Options as Opts};
-ghost use Rattle.record.specs.View.{view};
+ghost use Rattle.header.specs.declared.Opened.the-variants.{Refused};
+ghost use Rattle.record.specs.View.{View, view};
+ghost use Rattle.rows.specs.Layout.{Laid, viewIn};
 ghost use Rattle.lines.specs.Cursors.{cursor, first, Stepped};
 ghost use Rattle.lines.specs.declared.Place.the-variants.{Done};
 ghost use Rattle.listing_text.specs.Filling.{isDone, pieceOf, inputPiece, Filled};
@@ -32,7 +37,7 @@ pub fn is_done(c: Cursor) -> bool
 }
 
 fn done_line(out: &mut [u8], at: usize) -> Step
-    ensures { λ r. ⌜ ((options : Opts) (tables strings blob : List ℕ) (c m i : ℕ) → Stepped (view options tables strings blob) (cursor Done c m i) (now (out .entry)) at (now (out .exit)) r) ⌝ }
+    ensures { λ r. ⌜ ((v : View) (c m i : ℕ) → Stepped v (cursor Done c m i) (now (out .entry)) at (now (out .exit)) r) ⌝ }
 {
     let end = lines::push_nothing(out, at);
     Step {
@@ -41,16 +46,19 @@ fn done_line(out: &mut [u8], at: usize) -> Step
     }
 }
 
-// One step: the line at a cursor is appended, if it has one, and the next cursor handed out.
+// One step over an opened stream: the line at a cursor is appended, if it has one, and the next cursor handed out.
 pub fn next_line(
     tables: &[u8],
     strings: &[u8],
     blob: &[u8],
     options: Options,
+    layout: &Layout,
     c: Cursor,
     out: &mut [u8],
     at: usize,
 ) -> Step
+    requires { ⌜ Laid (now tables) (now layout) ⌝ }
+    requires { ⌜ ((s b : List ℕ) → viewIn (now tables) (now layout) s b ≡ view options (now tables) s b) ⌝ }
     ensures { λ r. ⌜ Stepped (view options (now (tables .entry)) (now (strings .entry)) (now (blob .entry))) c (now (out .entry)) at (now (out .exit)) r ⌝ }
 {
     let place = c.place;
@@ -59,36 +67,91 @@ pub fn next_line(
     let i = c.i;
     match place {
         Place::Stop => class_lines::stop_line(tables, strings, blob, options, out, at),
-        Place::Classes => class_lines::classes_line(tables, strings, blob, options, out, at),
-        Place::Class => class_lines::class_line(tables, strings, blob, options, class, out, at),
-        Place::Flags => class_lines::flags_line(tables, strings, blob, options, class, out, at),
+        Place::Classes => class_lines::classes_line(tables, strings, blob, layout, out, at),
+        Place::Class => class_lines::class_line(tables, strings, blob, layout, class, out, at),
+        Place::Flags => class_lines::flags_line(tables, strings, blob, layout, class, out, at),
         Place::Generic => {
-            class_lines::generic_line(tables, strings, blob, options, class, i, out, at)
+            class_lines::generic_line(tables, strings, blob, layout, class, i, out, at)
         }
-        Place::Base => class_lines::base_line(tables, strings, blob, options, class, i, out, at),
+        Place::Base => class_lines::base_line(tables, strings, blob, layout, class, i, out, at),
         Place::Method => {
-            method_lines::method_line(tables, strings, blob, options, class, m, out, at)
+            method_lines::method_line(tables, strings, blob, layout, class, m, out, at)
         }
         Place::MethodFlags => {
-            method_lines::method_flags_line(tables, strings, blob, options, class, m, out, at)
+            method_lines::method_flags_line(tables, strings, blob, layout, class, m, out, at)
         }
         Place::MethodGeneric => {
-            method_lines::method_generic_line(tables, strings, blob, options, class, m, i, out, at)
+            method_lines::method_generic_line(tables, strings, blob, layout, class, m, i, out, at)
         }
         Place::Returns => {
-            method_lines::returns_line(tables, strings, blob, options, class, m, out, at)
+            method_lines::returns_line(tables, strings, blob, layout, class, m, out, at)
         }
         Place::ParamType => {
-            method_lines::param_type_line(tables, strings, blob, options, class, m, i, out, at)
+            method_lines::param_type_line(tables, strings, blob, layout, class, m, i, out, at)
         }
         Place::ParamName => {
-            method_lines::param_name_line(tables, strings, blob, options, class, m, i, out, at)
+            method_lines::param_name_line(tables, strings, blob, layout, class, m, i, out, at)
         }
         Place::Done => done_line(out, at),
     }
 }
 
 // Steps until the listing is done or a line does not fit into the buffer.
+fn fill_opened(
+    tables: &[u8],
+    strings: &[u8],
+    blob: &[u8],
+    options: Options,
+    layout: &Layout,
+    from: Cursor,
+    out: &mut [u8],
+) -> Step
+    requires { ⌜ Laid (now tables) (now layout) ⌝ }
+    requires { ⌜ ((s b : List ℕ) → viewIn (now tables) (now layout) s b ≡ view options (now tables) s b) ⌝ }
+    ensures { λ r. ⌜ Filled (pieceOf (view options (now (tables .entry)) (now (strings .entry)) (now (blob .entry))) (length (now (out .entry))) from) (now (out .entry)) (now (out .exit)) r ⌝ }
+{
+    let mut c = from;
+    let mut at = 0;
+    let mut steps: u32 = 65_536;
+    while 0 < steps {
+        if is_done(c) {
+            return Step { next: c, at };
+        }
+        let s = next_line(tables, strings, blob, options, layout, c, out, at);
+        let end = s.at;
+        if out.len() < end {
+            return Step { next: c, at };
+        }
+        c = s.next;
+        at = end;
+        steps -= 1;
+    }
+    Step { next: c, at }
+}
+
+// A stream that is refused has one line, at the first place.
+fn fill_refused(why: Refusal, from: Cursor, out: &mut [u8]) -> Step
+    ensures { λ r. ⌜ ((options : Opts) (tables strings blob : List ℕ) → opened options tables .answer ≡ Refused why → Filled (pieceOf (view options tables strings blob) (length (now (out .entry))) from) (now (out .entry)) (now (out .exit)) r) ⌝ }
+{
+    let place = from.place;
+    match place {
+        Place::Stop => {
+            let s = lines::push_refused(out, 0, why);
+            let end = s.at;
+            if end <= out.len() {
+                return s;
+            }
+            Step { next: from, at: 0 }
+        }
+        Place::Done => Step { next: from, at: 0 },
+        _ => Step {
+            next: lines::cursor_at(Place::Done, 0, 0, 0),
+            at: 0,
+        },
+    }
+}
+
+// As many whole lines from a cursor on as the buffer holds. The stream is opened once.
 pub fn fill(
     tables: &[u8],
     strings: &[u8],
@@ -99,23 +162,13 @@ pub fn fill(
 ) -> Step
     ensures { λ r. ⌜ Filled (pieceOf (view options (now (tables .entry)) (now (strings .entry)) (now (blob .entry))) (length (now (out .entry))) from) (now (out .entry)) (now (out .exit)) r ⌝ }
 {
-    let mut c = from;
-    let mut at = 0;
-    let mut steps: u32 = 65_536;
-    while 0 < steps {
-        if is_done(c) {
-            return Step { next: c, at };
-        }
-        let s = next_line(tables, strings, blob, options, c, out, at);
-        let end = s.at;
-        if out.len() < end {
-            return Step { next: c, at };
-        }
-        c = s.next;
-        at = end;
-        steps -= 1;
+    let found = opening::open(tables, options);
+    let answer = found.answer;
+    let layout = found.layout;
+    match answer {
+        Opened::Refused(why) => fill_refused(why, from, out),
+        Opened::Ready => fill_opened(tables, strings, blob, options, &layout, from, out),
     }
-    Step { next: c, at }
 }
 
 // The same over a program's whole input, which is opened anew for each piece.

@@ -1,12 +1,18 @@
 // The lines of a method, one function to a place of the cursor: its name, flags, generic parameters, return type and parameters.
 use classes::ClassNumber;
-use header::Options;
 use lines::Place;
 use lines::Step;
 use lines::cursor_at;
 use lines::next_number;
+use method_answers::method_flags_of;
+use method_answers::write_method_generic_name;
+use method_answers::write_method_name;
+use method_answers::write_param_name_of;
+use method_answers::write_param_type_of;
+use method_answers::write_return_type_of;
+use rows::Layout;
 ghost use Prim.Native.Nat.{ℕ};
-ghost use Rattle.record.specs.View.{view};
+ghost use Rattle.rows.specs.Layout.{Laid, viewIn};
 ghost use Rattle.lines.specs.Cursors.{cursor, Stepped};
 ghost use Rattle.lines.specs.declared.Place.the-variants.{Method, MethodFlags, MethodGeneric, Returns, ParamType, ParamName};
 
@@ -18,24 +24,17 @@ pub fn method_line(
     tables: &[u8],
     strings: &[u8],
     blob: &[u8],
-    options: Options,
+    layout: &Layout,
     class: u32,
     m: u32,
     out: &mut [u8],
     at: usize,
 ) -> Step
-    ensures { λ r. ⌜ ((i : ℕ) → Stepped (view options (now (tables .entry)) (now (strings .entry)) (now (blob .entry))) (cursor Method class m i) (now (out .entry)) at (now (out .exit)) r) ⌝ }
+    requires { ⌜ Laid (now tables) (now layout) ⌝ }
+    ensures { λ r. ⌜ ((i : ℕ) → Stepped (viewIn (now (tables .entry)) (now (layout .entry)) (now (strings .entry)) (now (blob .entry))) (cursor Method class m i) (now (out .entry)) at (now (out .exit)) r) ⌝ }
 {
     let mut name = [0u8; LONGEST];
-    let reply = dotnet::method_name(
-        tables,
-        strings,
-        blob,
-        options,
-        ClassNumber(class),
-        m,
-        &mut name,
-    );
+    let reply = write_method_name(&mut name, tables, strings, layout, ClassNumber(class), m);
     let more = cursor_at(Place::MethodFlags, class, m, 0);
     let past = cursor_at(Place::Class, next_number(class), 0, 0);
     lines::name_step(out, at, b"method=", reply, &name, more, past)
@@ -46,15 +45,16 @@ pub fn method_flags_line(
     tables: &[u8],
     strings: &[u8],
     blob: &[u8],
-    options: Options,
+    layout: &Layout,
     class: u32,
     m: u32,
     out: &mut [u8],
     at: usize,
 ) -> Step
-    ensures { λ r. ⌜ ((i : ℕ) → Stepped (view options (now (tables .entry)) (now (strings .entry)) (now (blob .entry))) (cursor MethodFlags class m i) (now (out .entry)) at (now (out .exit)) r) ⌝ }
+    requires { ⌜ Laid (now tables) (now layout) ⌝ }
+    ensures { λ r. ⌜ ((i : ℕ) → Stepped (viewIn (now (tables .entry)) (now (layout .entry)) (now (strings .entry)) (now (blob .entry))) (cursor MethodFlags class m i) (now (out .entry)) at (now (out .exit)) r) ⌝ }
 {
-    let reply = dotnet::method_flags(tables, strings, blob, options, ClassNumber(class), m);
+    let reply = method_flags_of(tables, layout, ClassNumber(class), m);
     lines::number_step(
         out,
         at,
@@ -69,25 +69,25 @@ pub fn method_generic_line(
     tables: &[u8],
     strings: &[u8],
     blob: &[u8],
-    options: Options,
+    layout: &Layout,
     class: u32,
     m: u32,
     i: u32,
     out: &mut [u8],
     at: usize,
 ) -> Step
-    ensures { λ r. ⌜ Stepped (view options (now (tables .entry)) (now (strings .entry)) (now (blob .entry))) (cursor MethodGeneric class m i) (now (out .entry)) at (now (out .exit)) r ⌝ }
+    requires { ⌜ Laid (now tables) (now layout) ⌝ }
+    ensures { λ r. ⌜ Stepped (viewIn (now (tables .entry)) (now (layout .entry)) (now (strings .entry)) (now (blob .entry))) (cursor MethodGeneric class m i) (now (out .entry)) at (now (out .exit)) r ⌝ }
 {
     let mut name = [0u8; LONGEST];
-    let reply = dotnet::method_generic_name(
+    let reply = write_method_generic_name(
+        &mut name,
         tables,
         strings,
-        blob,
-        options,
+        layout,
         ClassNumber(class),
         m,
         i,
-        &mut name,
     );
     let more = cursor_at(Place::MethodGeneric, class, m, next_number(i));
     let past = cursor_at(Place::Returns, class, m, 0);
@@ -99,23 +99,24 @@ pub fn returns_line(
     tables: &[u8],
     strings: &[u8],
     blob: &[u8],
-    options: Options,
+    layout: &Layout,
     class: u32,
     m: u32,
     out: &mut [u8],
     at: usize,
 ) -> Step
-    ensures { λ r. ⌜ ((i : ℕ) → Stepped (view options (now (tables .entry)) (now (strings .entry)) (now (blob .entry))) (cursor Returns class m i) (now (out .entry)) at (now (out .exit)) r) ⌝ }
+    requires { ⌜ Laid (now tables) (now layout) ⌝ }
+    ensures { λ r. ⌜ ((i : ℕ) → Stepped (viewIn (now (tables .entry)) (now (layout .entry)) (now (strings .entry)) (now (blob .entry))) (cursor Returns class m i) (now (out .entry)) at (now (out .exit)) r) ⌝ }
 {
     let mut name = [0u8; LONGEST];
-    let reply = dotnet::return_type(
+    let reply = write_return_type_of(
+        &mut name,
         tables,
         strings,
         blob,
-        options,
+        layout,
         ClassNumber(class),
         m,
-        &mut name,
     );
     let end = lines::push_name(out, at, b"returns=", reply, &name);
     Step {
@@ -129,25 +130,26 @@ pub fn param_type_line(
     tables: &[u8],
     strings: &[u8],
     blob: &[u8],
-    options: Options,
+    layout: &Layout,
     class: u32,
     m: u32,
     i: u32,
     out: &mut [u8],
     at: usize,
 ) -> Step
-    ensures { λ r. ⌜ Stepped (view options (now (tables .entry)) (now (strings .entry)) (now (blob .entry))) (cursor ParamType class m i) (now (out .entry)) at (now (out .exit)) r ⌝ }
+    requires { ⌜ Laid (now tables) (now layout) ⌝ }
+    ensures { λ r. ⌜ Stepped (viewIn (now (tables .entry)) (now (layout .entry)) (now (strings .entry)) (now (blob .entry))) (cursor ParamType class m i) (now (out .entry)) at (now (out .exit)) r ⌝ }
 {
     let mut name = [0u8; LONGEST];
-    let reply = dotnet::param_type(
+    let reply = write_param_type_of(
+        &mut name,
         tables,
         strings,
         blob,
-        options,
+        layout,
         ClassNumber(class),
         m,
         i,
-        &mut name,
     );
     let more = cursor_at(Place::ParamName, class, m, i);
     let past = cursor_at(Place::Method, class, next_number(m), 0);
@@ -159,25 +161,26 @@ pub fn param_name_line(
     tables: &[u8],
     strings: &[u8],
     blob: &[u8],
-    options: Options,
+    layout: &Layout,
     class: u32,
     m: u32,
     i: u32,
     out: &mut [u8],
     at: usize,
 ) -> Step
-    ensures { λ r. ⌜ Stepped (view options (now (tables .entry)) (now (strings .entry)) (now (blob .entry))) (cursor ParamName class m i) (now (out .entry)) at (now (out .exit)) r ⌝ }
+    requires { ⌜ Laid (now tables) (now layout) ⌝ }
+    ensures { λ r. ⌜ Stepped (viewIn (now (tables .entry)) (now (layout .entry)) (now (strings .entry)) (now (blob .entry))) (cursor ParamName class m i) (now (out .entry)) at (now (out .exit)) r ⌝ }
 {
     let mut name = [0u8; LONGEST];
-    let reply = dotnet::param_name(
+    let reply = write_param_name_of(
+        &mut name,
         tables,
         strings,
         blob,
-        options,
+        layout,
         ClassNumber(class),
         m,
         i,
-        &mut name,
     );
     let end = lines::push_name(out, at, b"pname=", reply, &name);
     Step {

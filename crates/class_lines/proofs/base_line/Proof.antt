@@ -6,58 +6,58 @@ use Rattle.class_lines.proofs.base_line.Statement.{statement}
 use Rattle.class_lines.proofs.base_line.Tie as tie
 use Rattle.class_lines.proofs.base_line.Reads as reads
 use Rattle.class_lines.proofs.base_line.Lts as lts
-use Rattle.dotnet.proofs.base_name.Reads as base-name-reads
+use Rattle.class_answers.proofs.write_base_name.Reads as write-base-name-reads
 use Rattle.lines.proofs.cursor_at.Reads as cursor-at-reads
 use Rattle.lines.proofs.name_step.Reads as name-step-reads
 use Rattle.lines.proofs.next_number.Reads as next-number-reads
 
--- src/lib.rt:166:9
-slice-aggregate-base-name : tie.Need-slice-aggregate-base-name
-slice-aggregate-base-name c = search needs
-
 -- src/lib.rt:159:9
-base-name-requires : tie.Need-base-name-requires
-base-name-requires c κs = search needs
+slice-aggregate-write-base-name : tie.Need-slice-aggregate-write-base-name
+slice-aggregate-write-base-name c = search needs
 
--- src/lib.rt:168:49
+-- src/lib.rt:158:9
+write-base-name-requires : tie.Need-write-base-name-requires
+write-base-name-requires c κs = search needs
+
+-- src/lib.rt:167:49
 next-number-requires : tie.Need-next-number-requires
 next-number-requires c κs = search needs
 
--- src/lib.rt:168:9
+-- src/lib.rt:167:9
 cursor-at-requires : tie.Need-cursor-at-requires
 cursor-at-requires c κs = search needs
 
--- src/lib.rt:169:9
+-- src/lib.rt:168:9
 cursor-at-requires-2 : tie.Need-cursor-at-requires-2
 cursor-at-requires-2 c κs = search needs
 
--- src/lib.rt:170:31
+-- src/lib.rt:169:31
 slice-aggregate-name-step : tie.Need-slice-aggregate-name-step
 slice-aggregate-name-step c = search needs
 
--- src/lib.rt:170:48
+-- src/lib.rt:169:48
 slice-aggregate-name-step-2 : tie.Need-slice-aggregate-name-step-2
 slice-aggregate-name-step-2 c = search needs
 
--- src/lib.rt:170:5
+-- src/lib.rt:169:5
 name-step-requires : tie.Need-name-step-requires
 name-step-requires c κs = search needs
 
--- src/lib.rt:146:1
+-- src/lib.rt:144:1
 same-length : tie.Need-same-length
 same-length c = search needs
 
--- src/lib.rt:146:1
+-- src/lib.rt:144:1
 returns : tie.Need-returns
 returns c = λ m. base-goes _ _ m _ (c .before .before .before .before .before .before .before .before .next-number .ensures) (c .before .before .before .before .before .before .before .cursor-at .ensures) (c .before .before .before .before .before .before .cursor-at2 .ensures)
-    (c .before .before .name-step .ensures _ _ (length-replicate {A = ℕ} 4096 0) (c .before .before .before .before .before .before .before .before .before .before .base-name .ensures))
+    (c .before .before .name-step .ensures _ _ (length-replicate {A = ℕ} 4096 0) (c .before .before .before .before .before .before .before .before .before .before .write-base-name .ensures))
 
 pub base-line-spec : {M : Type 1} → statement M
 base-line-spec =
     tie.close
     (tie.spec
-    slice-aggregate-base-name
-    base-name-requires
+    slice-aggregate-write-base-name
+    write-base-name-requires
     next-number-requires
     cursor-at-requires
     cursor-at-requires-2

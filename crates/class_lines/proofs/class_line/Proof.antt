@@ -6,53 +6,53 @@ use Rattle.class_lines.proofs.class_line.Statement.{statement}
 use Rattle.class_lines.proofs.class_line.Tie as tie
 use Rattle.class_lines.proofs.class_line.Reads as reads
 use Rattle.class_lines.proofs.class_line.Lts as lts
-use Rattle.dotnet.proofs.class_name.Reads as class-name-reads
+use Rattle.class_answers.proofs.write_class_name.Reads as write-class-name-reads
 use Rattle.lines.proofs.cursor_at.Reads as cursor-at-reads
 use Rattle.lines.proofs.name_step.Reads as name-step-reads
 
--- src/lib.rt:88:9
-slice-aggregate-class-name : tie.Need-slice-aggregate-class-name
-slice-aggregate-class-name c = search needs
+-- src/lib.rt:93:34
+slice-aggregate-write-class-name : tie.Need-slice-aggregate-write-class-name
+slice-aggregate-write-class-name c = search needs
 
--- src/lib.rt:82:9
-class-name-requires : tie.Need-class-name-requires
-class-name-requires c κs = search needs
+-- src/lib.rt:93:9
+write-class-name-requires : tie.Need-write-class-name-requires
+write-class-name-requires c κs = search needs
 
--- src/lib.rt:90:9
+-- src/lib.rt:94:9
 cursor-at-requires : tie.Need-cursor-at-requires
 cursor-at-requires c κs = search needs
 
--- src/lib.rt:91:9
+-- src/lib.rt:95:9
 cursor-at-requires-2 : tie.Need-cursor-at-requires-2
 cursor-at-requires-2 c κs = search needs
 
--- src/lib.rt:92:31
+-- src/lib.rt:96:31
 slice-aggregate-name-step : tie.Need-slice-aggregate-name-step
 slice-aggregate-name-step c = search needs
 
--- src/lib.rt:92:49
+-- src/lib.rt:96:49
 slice-aggregate-name-step-2 : tie.Need-slice-aggregate-name-step-2
 slice-aggregate-name-step-2 c = search needs
 
--- src/lib.rt:92:5
+-- src/lib.rt:96:5
 name-step-requires : tie.Need-name-step-requires
 name-step-requires c κs = search needs
 
--- src/lib.rt:70:1
+-- src/lib.rt:80:1
 same-length : tie.Need-same-length
 same-length c = search needs
 
--- src/lib.rt:70:1
+-- src/lib.rt:80:1
 returns : tie.Need-returns
 returns c = λ m i. class-goes _ _ m i (c .before .before .before .before .before .before .before .cursor-at .ensures) (c .before .before .before .before .before .before .cursor-at2 .ensures)
-    (c .before .before .name-step .ensures _ _ (length-replicate {A = ℕ} 4096 0) (c .before .before .before .before .before .before .before .before .before .class-name .ensures))
+    (c .before .before .name-step .ensures _ _ (length-replicate {A = ℕ} 4096 0) (c .before .before .before .before .before .before .before .before .before .write-class-name .ensures _))
 
 pub class-line-spec : {M : Type 1} → statement M
 class-line-spec =
     tie.close
     (tie.spec
-    slice-aggregate-class-name
-    class-name-requires
+    slice-aggregate-write-class-name
+    write-class-name-requires
     cursor-at-requires
     cursor-at-requires-2
     slice-aggregate-name-step

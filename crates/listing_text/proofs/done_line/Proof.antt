@@ -7,21 +7,21 @@ use Rattle.listing_text.proofs.done_line.Lts as lts
 use Rattle.lines.proofs.cursor_at.Reads as cursor-at-reads
 use Rattle.lines.proofs.push_nothing.Reads as push-nothing-reads
 
--- src/lib.rt:41:9
+-- src/lib.rt:42:9
 push-nothing-requires : tie.Need-push-nothing-requires
 push-nothing-requires c κs = search needs
 
--- src/lib.rt:43:15
+-- src/lib.rt:44:15
 cursor-at-requires : tie.Need-cursor-at-requires
 cursor-at-requires c κs = search needs
 
--- src/lib.rt:38:1
+-- src/lib.rt:39:1
 same-length : tie.Need-same-length
 same-length c = search needs
 
--- src/lib.rt:38:1
+-- src/lib.rt:39:1
 returns : tie.Need-returns
-returns c = λ o t n h d m i. done-goes _ d m i (c .cursor-at .ensures) (c .before .before .before .push-nothing .ensures)
+returns c = λ v d m i. done-goes v d m i (c .cursor-at .ensures) (c .before .before .before .push-nothing .ensures)
 
 pub done-line-spec : {M : Type 1} → statement M
 done-line-spec = tie.close (tie.spec push-nothing-requires cursor-at-requires same-length returns)

@@ -1,87 +1,63 @@
-use Prim.Native.Nat.{_-_}
-use native.Mathlib.Omega.{arith}
-use lib.ListN.{length}
+use mathlib.Core.Path.{sym, _∙_}
+use Rattle.opening.proofs.Laws.{opened-laid, opened-view}
 use borrow.Author.Needs.{needs}
-use Rattle.record.specs.View.{view}
-use Rattle.listing_text.specs.Filling.{pieceOf}
-use Rattle.listing_text.proofs.Filling.{Going, going-start, going-done, going-full, going-on, going-out}
 use Rattle.listing_text.proofs.fill.Statement.{statement}
 use Rattle.listing_text.proofs.fill.Tie as tie
 use Rattle.listing_text.proofs.fill.Reads as reads
 use Rattle.listing_text.proofs.fill.Lts as lts
-use Rattle.listing_text.proofs.is_done.Reads as is-done-reads
-use Rattle.listing_text.proofs.next_line.Reads as next-line-reads
+use Rattle.listing_text.proofs.fill_opened.Reads as fill-opened-reads
+use Rattle.listing_text.proofs.fill_refused.Reads as fill-refused-reads
+use Rattle.opening.proofs.open.Reads as open-reads
 
-abbrev Inv-loop : tie.InvT-loop
-Inv-loop tables strings blob options out₀ c₀ at₀ steps₀ out c at steps =
-    Going (view options tables strings blob) (pieceOf (view options tables strings blob) (length out₀) c₀) out₀ out c at steps
+-- src/lib.rt:165:9
+open-requires : tie.Need-open-requires
+open-requires c κs = search needs
 
-abbrev μ-loop : tie.MeasureT-loop
-μ-loop tables strings blob options out₀ c₀ at₀ steps₀ out c at steps = steps
+-- src/lib.rt:169:25
+enum-known-answer : tie.Need-enum-known-answer
+enum-known-answer c = search needs
 
--- src/lib.rt:109:5
-loop-holds : tie.Need-loop-holds Inv-loop μ-loop
-loop-holds c = going-start _ _ _ 65536
+-- src/lib.rt:169:33
+fill-refused-requires : tie.Need-fill-refused-requires
+fill-refused-requires c κs = search needs
 
--- src/lib.rt:110:12
-is-done-requires : tie.Need-is-done-requires Inv-loop μ-loop
-is-done-requires c κs = search needs
+-- src/lib.rt:170:70
+enum-told : tie.Need-enum-told
+enum-told c = search needs
 
--- src/lib.rt:111:13
-same-length : tie.Need-same-length Inv-loop μ-loop
-same-length c = omega (arith, c .before .before .before .loop .inv .wrote .keeps .long)
+-- src/lib.rt:170:26
+fill-opened-requires : tie.Need-fill-opened-requires
+fill-opened-requires c κs =
+    let opened = c .before .before .before .before .before .«open» .ensures in
+    let ready = c .before .before .enum-told .given .1 in
+    (opened-laid opened ready, opened-view opened ready)
 
--- src/lib.rt:111:13
-returns : tie.Need-returns Inv-loop μ-loop
-returns c = going-done (c .before .before .before .loop .inv) (c .before .is-done .ensures) (c .if1 .taken)
+-- src/lib.rt:155:1
+same-length : tie.Need-same-length
+same-length c = search needs
 
--- src/lib.rt:113:13
-next-line-requires : tie.Need-next-line-requires Inv-loop μ-loop
-next-line-requires c κs = search needs
+-- src/lib.rt:155:1
+returns : tie.Need-returns
+returns c = c .before .before .fill-refused .ensures _ _ _ _ (sym (c .before .before .before .before .before .before .before .before .«open» .ensures .answer) ∙ c .before .before .before .before .before .answer .given .1)
 
--- src/lib.rt:116:13
-same-length-2 : tie.Need-same-length-2 Inv-loop μ-loop
-same-length-2 c = omega (arith, c .before .before .before .next-line .ensures .wrote .keeps .long, c .before .before .before .before .before .before .before .before .loop .inv .wrote .keeps .long)
+-- src/lib.rt:155:1
+same-length-2 : tie.Need-same-length-2
+same-length-2 c = search needs
 
--- src/lib.rt:116:13
-returns-2 : tie.Need-returns-2 Inv-loop μ-loop
-returns-2 c = going-full (c .before .before .before .before .before .before .before .before .loop .inv) (c .before .before .before .next-line .ensures) (c .if2 .taken)
-
--- src/lib.rt:120:9
-sub-steps : tie.Need-sub-steps Inv-loop μ-loop
-sub-steps c = search needs
-
--- src/lib.rt:109:5
-loop-less : tie.Need-loop-less Inv-loop μ-loop
-loop-less c = search needs
-
--- src/lib.rt:109:5
-loop-again : tie.Need-loop-again Inv-loop μ-loop
-loop-again c = going-on (c .before .before .before .before .before .before .before .before .before .loop .inv) (c .before .before .before .before .next-line .ensures) (c .before .before .before .before .before .before .before .before .loop-test .taken) (c .before .before .before .before .before .before .before .is-done .ensures) (c .before .before .before .before .before .before .if1 .left) (c .before .if2 .left)
-
--- src/lib.rt:96:1
-same-length-3 : tie.Need-same-length-3 Inv-loop μ-loop
-same-length-3 c = omega (arith, c .before .loop .inv .wrote .keeps .long)
-
--- src/lib.rt:96:1
-returns-3 : tie.Need-returns-3 Inv-loop μ-loop
-returns-3 c = going-out (c .before .loop .inv) (c .loop-test .left)
+-- src/lib.rt:155:1
+returns-2 : tie.Need-returns-2
+returns-2 c = search needs
 
 pub fill-spec : {M : Type 1} → statement M
 fill-spec =
     tie.close
     (tie.spec
-    Inv-loop
-    μ-loop
-    loop-holds
-    is-done-requires
+    open-requires
+    enum-known-answer
+    fill-refused-requires
+    enum-told
+    fill-opened-requires
     same-length
     returns
-    next-line-requires
     same-length-2
-    returns-2
-    sub-steps
-    loop-less
-    loop-again
-    same-length-3
-    returns-3)
+    returns-2)

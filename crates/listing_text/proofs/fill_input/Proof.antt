@@ -13,47 +13,47 @@ use Rattle.lines.proofs.push_refused.Reads as push-refused-reads
 use Rattle.listing_text.proofs.fill.Reads as fill-reads
 use Rattle.numbers.proofs.cut.Reads as cut-reads
 
--- src/lib.rt:129:11
+-- src/lib.rt:178:11
 open-bundle-requires : tie.Need-open-bundle-requires
 open-bundle-requires c κs = search needs
 
--- src/lib.rt:130:25
+-- src/lib.rt:179:25
 enum-known-t : tie.Need-enum-known-t
 enum-known-t c = search needs
 
--- src/lib.rt:131:17
+-- src/lib.rt:180:17
 cut-requires : tie.Need-cut-requires
 cut-requires c κs = search needs
 
--- src/lib.rt:132:17
+-- src/lib.rt:181:17
 cut-requires-2 : tie.Need-cut-requires-2
 cut-requires-2 c κs = search needs
 
--- src/lib.rt:133:17
+-- src/lib.rt:182:17
 cut-requires-3 : tie.Need-cut-requires-3
 cut-requires-3 c κs = search needs
 
--- src/lib.rt:134:41
+-- src/lib.rt:183:41
 base-options-requires : tie.Need-base-options-requires
 base-options-requires c κs = search needs
 
--- src/lib.rt:134:13
+-- src/lib.rt:183:13
 fill-requires : tie.Need-fill-requires
 fill-requires c κs = search needs
 
--- src/lib.rt:136:50
+-- src/lib.rt:185:50
 enum-told : tie.Need-enum-told
 enum-told c = search needs
 
--- src/lib.rt:136:30
+-- src/lib.rt:185:30
 push-refused-requires : tie.Need-push-refused-requires
 push-refused-requires c κs = search needs
 
--- src/lib.rt:126:1
+-- src/lib.rt:175:1
 same-length : tie.Need-same-length
 same-length c = search needs
 
--- src/lib.rt:126:1
+-- src/lib.rt:175:1
 returns : tie.Need-returns
 returns c =
     let is = sym (c .before .before .before .before .before .before .before .before .before .t .given .1) ∙ c .before .before .before .before .before .before .before .before .before .before .before .open-bundle .ensures in
@@ -65,11 +65,11 @@ returns c =
     (c .before .before .before .before .base-options .ensures)
     (c .before .before .fill .ensures)
 
--- src/lib.rt:126:1
+-- src/lib.rt:175:1
 same-length-2 : tie.Need-same-length-2
 same-length-2 c = search needs
 
--- src/lib.rt:126:1
+-- src/lib.rt:175:1
 returns-2 : tie.Need-returns-2
 returns-2 c = input-malformed _ _ _ (sym (c .before .before .before .before .enum-told .given .1) ∙ c .before .before .before .before .before .before .open-bundle .ensures) (c .before .before .push-refused .ensures)
 

@@ -32,15 +32,15 @@ not-done ParamType h = refl
 not-done ParamName h = refl
 not-done Done h = absurd (miss others 12 tt h)
 
--- src/lib.rt:32:9
+-- src/lib.rt:36:34
 enum-told : tie.Need-enum-told
 enum-told c = search needs
 
--- src/lib.rt:27:1
+-- src/lib.rt:32:1
 returns : tie.Need-returns
 returns c = search needs
 
--- src/lib.rt:27:1
+-- src/lib.rt:32:1
 returns-2 : tie.Need-returns-2
 returns-2 c = not-done (c .before .args .c .place) (c .match .keys2)
 
