@@ -151,7 +151,7 @@ fn fill_refused(why: Refusal, from: Cursor, out: &mut [u8]) -> Step
     }
 }
 
-// As many whole lines from a cursor on as the buffer holds. The stream is opened once.
+// As many whole lines from a cursor on as the buffer holds. The stream is opened once, and its columns are looked through once.
 pub fn fill(
     tables: &[u8],
     strings: &[u8],
@@ -164,10 +164,13 @@ pub fn fill(
 {
     let found = opening::open(tables, options);
     let answer = found.answer;
-    let layout = found.layout;
+    let mut layout = found.layout;
     match answer {
         Opened::Refused(why) => fill_refused(why, from, out),
-        Opened::Ready => fill_opened(tables, strings, blob, options, &layout, from, out),
+        Opened::Ready => {
+            marks::mark_columns(tables, &mut layout);
+            fill_opened(tables, strings, blob, options, &layout, from, out)
+        }
     }
 }
 

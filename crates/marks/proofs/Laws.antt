@@ -8,7 +8,7 @@ use native.Mathlib.Nat.{eq-or-lt-of-le, eq-zero-or-pos}
 use native.Mathlib.Omega.{arith}
 use lib.ListN.{length, getD, set}
 use lib.Seq.{getD-set-other}
-use Rattle.rows.specs.Layout.{Laid, Ascends, optionsIn, markAt, rowsAt, cell}
+use Rattle.rows.specs.Layout.{Laid, Ascends, optionsIn, markAt, rowsAt, cell, viewIn}
 use Rattle.marks.specs.Marks.{Tells, Marked}
 
 -- ---- The pass over a column f
@@ -69,6 +69,10 @@ unmarked laid = record { laid = laid; options = refl }
 
 pub marked-then : {t l l′ l″ : List ℕ} → Marked t l l′ → Marked t l′ l″ → Marked t l l″
 marked-then a b = record { laid = b .laid; options = b .options ∙ a .options }
+
+-- The view is the same.
+pub marked-view : {t l l′ : List ℕ} → Marked t l l′ → (strings blob : List ℕ) → viewIn t l′ strings blob ≡ viewIn t l strings blob
+marked-view m strings blob = rw (m .options)
 
 module _ {t l : List ℕ} (laid : Laid t l) (c : ℕ) where
   abbrev l′ : List ℕ

@@ -1,5 +1,6 @@
 use mathlib.Core.Path.{sym, _∙_}
 use Rattle.opening.proofs.Laws.{opened-laid, opened-view}
+use Rattle.marks.proofs.Laws.{marked-view}
 use borrow.Author.Needs.{needs}
 use Rattle.listing_text.proofs.fill.Statement.{statement}
 use Rattle.listing_text.proofs.fill.Tie as tie
@@ -7,6 +8,7 @@ use Rattle.listing_text.proofs.fill.Reads as reads
 use Rattle.listing_text.proofs.fill.Lts as lts
 use Rattle.listing_text.proofs.fill_opened.Reads as fill-opened-reads
 use Rattle.listing_text.proofs.fill_refused.Reads as fill-refused-reads
+use Rattle.marks.proofs.mark_columns.Reads as mark-columns-reads
 use Rattle.opening.proofs.open.Reads as open-reads
 
 -- src/lib.rt:165:9
@@ -21,16 +23,22 @@ enum-known-answer c = search needs
 fill-refused-requires : tie.Need-fill-refused-requires
 fill-refused-requires c κs = search needs
 
--- src/lib.rt:170:70
+-- src/lib.rt:171:41
 enum-told : tie.Need-enum-told
 enum-told c = search needs
 
--- src/lib.rt:170:26
+-- src/lib.rt:171:13
+mark-columns-requires : tie.Need-mark-columns-requires
+mark-columns-requires c κs = opened-laid (c .before .before .before .before .«open» .ensures) (c .before .enum-told .given .1)
+
+-- src/lib.rt:172:13
 fill-opened-requires : tie.Need-fill-opened-requires
 fill-opened-requires c κs =
-    let opened = c .before .before .before .before .before .«open» .ensures in
-    let ready = c .before .before .enum-told .given .1 in
-    (opened-laid opened ready, opened-view opened ready)
+    let marked = c .before .before in
+    let told = marked .before .before in
+    let opened = told .before .before .before .«open» .ensures in
+    let m = marked .mark-columns .ensures in
+    (m .laid, λ s b. marked-view m s b ∙ opened-view opened (told .enum-told .given .1) s b)
 
 -- src/lib.rt:155:1
 same-length : tie.Need-same-length
@@ -56,6 +64,7 @@ fill-spec =
     enum-known-answer
     fill-refused-requires
     enum-told
+    mark-columns-requires
     fill-opened-requires
     same-length
     returns
