@@ -35,15 +35,15 @@ size_t measure_rust(void) { return rust_listing(in.tables, in.strings, in.blob, 
 size_t measure_values(struct bytes block) MEASURED;
 size_t measure_values(struct bytes block) { return rust_values(block); }
 
-void measure_ours(struct listing *listing) MEASURED;
-void measure_ours(struct listing *listing) { list(listing); }
+void measure_listing(struct listing *listing) MEASURED;
+void measure_listing(struct listing *listing) { list(listing); }
 
 dn_reply measure_call(int call, const uint32_t *r, struct buffer buffer) MEASURED;
 dn_reply measure_call(int call, const uint32_t *r, struct buffer buffer) { return calls[call].ask(&in, r, buffer); }
 
 /* ---- the order of it */
 
-static size_t measure_listings(void) {
+static size_t both_listings(void) {
     struct listing listing = { &in, our_text, 0, ROOM };
     struct bytes block = rust_block(in.tables, in.strings, in.blob);
     rust_listing(in.tables, in.strings, in.blob, rust_text, ROOM); /* once before, so that nothing is done for the first time */
@@ -51,8 +51,8 @@ static size_t measure_listings(void) {
     size_t length = measure_rust();
     printf("values\n");
     measure_values(block);
-    printf("ours\n");
-    measure_ours(&listing);
+    printf("calls\n");
+    measure_listing(&listing);
     if (length != listing.length || memcmp(rust_text, our_text, length)) {
         fprintf(stderr, "bench: the listings differ\n");
         exit(1);
@@ -72,7 +72,7 @@ static int find_rows(int call, int last, int depth, uint32_t *r) {
     return 0;
 }
 
-static void measure_calls(void) {
+static void single_calls(void) {
     static uint8_t name[LONGEST];
     for (int call = 0; call < CALLS; call++)
         for (int last = 0; last <= (calls[call].rows > 0); last++) {
@@ -91,8 +91,8 @@ int main(int argc, char **argv) {
         fprintf(stderr, "usage: bench INPUT LISTING\n");
         return 2;
     }
-    size_t length = measure_listings();
-    measure_calls();
+    size_t length = both_listings();
+    single_calls();
     size_t lines = 0;
     for (size_t i = 0; i < length; i++) lines += our_text[i] == '\n';
     printf("lines=%zu\n", lines);
