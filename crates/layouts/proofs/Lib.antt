@@ -1,4 +1,4 @@
 pub mod Reaches
-pub mod Codes
+pub mod Lists
 pub mod Sizes
 pub mod Facts

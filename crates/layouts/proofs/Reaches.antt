@@ -10,7 +10,7 @@ use lib.Dec.{T, leb, ltb, eqb, ltb→lt, eqb→eq, lit<}
 use lib.ListN.{length, getD, drop, drop-of-length-le}
 use lib.Seq.{drop-cons}
 use Rattle.layouts.specs.Columns.{reaches}
-use Rattle.layouts.specs.Codes.{allBelow}
+use Rattle.layouts.specs.Lists.{allBelow}
 
 -- What a test of two parts says of each.
 pub and-left : (a b : Bool) → T (a && b) → T a
@@ -43,10 +43,6 @@ told : (b : Bool) → b ≡ true → T b
 told true e = tt
 told false e = let z : _≡_ {A = ℕ} 0 1 = cc in absurd (omega arith)
 
-pub holds : (b : Bool) → T b → b ≡ true
-holds true t = refl
-holds false t = absurd t
-
 -- The tables before position i do not reach n, as the loop of `coded_index_size` leaves it.
 module _ (cs : List ℕ) (n : ℕ) (ts : List ℕ) (i : ℕ) (e : reaches cs n ts ≡ reaches cs n (drop i ts)) where
   pub found : i < length ts → n ≤ getD cs (getD ts i 0) 0 → reaches cs n ts ≡ true
@@ -68,9 +64,6 @@ below-at n h (x ∷ ts) t (suc i) = below-at n h ts (and-right (ltb x n) (allBel
 
 pub below : (ts : List ℕ) → allBelow 64 ts ≡ true → (i : ℕ) → getD ts i 0 < 64
 below ts t i = below-at 64 (lit< tt) ts (told (allBelow 64 ts) t) i
-
-pub code-below : (row : List ℕ) → allBelow 26 row ≡ true → (j : ℕ) → getD row j 0 < 26
-code-below row t j = below-at 26 (lit< tt) row (told (allBelow 26 row) t) j
 
 -- Where every count is below n, no list reaches n.
 pub small : (cs : List ℕ) (n : ℕ) → ((t : ℕ) → getD cs t 0 < n) → (ts : List ℕ) → reaches cs n ts ≡ false

@@ -1,5 +1,5 @@
 pub mod Kinds
 pub mod Columns
-pub mod Codes
+pub mod Lists
 pub mod Facts
 pub mod Read

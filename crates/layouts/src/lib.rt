@@ -1,19 +1,17 @@
 // How many bytes an index into a heap or a table takes (ECMA-335 II.24.2.6), and with that a row of each table (II.22), and the columns
 // that are read. What is listed here, in rows.rt and in columns.rt is the Rust's; specs/ has it from the standard, and the proofs hold
 // the one against the other.
-mod columns;
+pub mod columns;
 mod kinds;
-mod rows;
+pub mod rows;
 
 ghost use mathlib.Core.Path.{_≡_};
 ghost use mathlib.Core.Bool.{true, cond};
 ghost use mathlib.Core.List.{[], _∷_};
 ghost use Prim.Native.Nat.{_+_, _<_};
 ghost use lib.Dec.{eqb};
-ghost use lib.ListN.{getD, drop};
-ghost use Rattle.layouts.specs.Columns.{reaches, indexSize, hasCustomAttribute, indexSizes, widthIn, rowSize};
-ghost use Rattle.layouts.specs.Codes.{byCode, coded, allBelow};
-ghost use Rattle.layouts.specs.Read.{readColumn, offsetIn, bytesIn};
+ghost use Rattle.layouts.specs.Columns.{reaches, indexSize, hasCustomAttribute, indexSizes};
+ghost use Rattle.layouts.specs.Lists.{allBelow};
 
 // The bytes that an index takes, 2 or 4.
 pub struct IndexSizes {
@@ -192,90 +190,15 @@ pub fn index_sizes(heap: u8, counts: &[u32; 64], decl_security: bool) -> IndexSi
     }
 }
 
-// The size of each index, by its code in rows.rt.
-fn by_code(sizes: IndexSizes) -> [u8; 26]
-    ensures { λ r. ⌜ r ≡ byCode sizes ⌝ }
-{
-    [
-        0,
-        sizes.string,
-        sizes.guid,
-        sizes.blob,
-        sizes.type_def,
-        sizes.field,
-        sizes.method_def,
-        sizes.param,
-        sizes.event,
-        sizes.property,
-        sizes.module_ref,
-        sizes.assembly_ref,
-        sizes.generic_param,
-        sizes.type_def_or_ref,
-        sizes.has_constant,
-        sizes.has_custom_attribute,
-        sizes.has_field_marshall,
-        sizes.has_decl_security,
-        sizes.member_ref_parent,
-        sizes.has_semantics,
-        sizes.method_def_or_ref,
-        sizes.member_forwarded,
-        sizes.implementation,
-        sizes.custom_attribute_type,
-        sizes.resolution_scope,
-        sizes.type_or_method_def,
-    ]
-}
-
 fn wide(x: u8) -> u32
-    ensures { λ r. ⌜ (r ≡ x) × (r < 256) ⌝ }
+    ensures { λ r. ⌜ r ≡ x ⌝ }
 {
     x as u32
 }
 
-// What a row of rows.rt or columns.rt sums up to: the bytes that are no index, and the sizes of five indices.
-fn sum_row(sizes: IndexSizes, row: [u8; 6]) -> u32
-    requires { ⌜ allBelow 26 row ≡ true ⌝ }
-    ensures { λ r. ⌜ r ≡ getD row 0 0 + coded (byCode sizes) (drop 1 row) ⌝ }
+// What six parts of a row take.
+fn sum(a: u8, b: u8, c: u8, d: u8, e: u8, f: u8) -> u32
+    ensures { λ r. ⌜ r ≡ a + (b + (c + (d + (e + f)))) ⌝ }
 {
-    let sizes = by_code(sizes);
-    let mut size = wide(row[0]);
-    for j in 1..6 {
-        size += wide(sizes[row[j] as usize]);
-    }
-    size
-}
-
-// The bytes of a row of a known table, 0x00 to 0x2C.
-pub fn row_size(sizes: IndexSizes, kind: usize) -> u32
-    requires { ⌜ kind < 45 ⌝ }
-    ensures { λ r. ⌜ r ≡ rowSize (widthIn sizes) kind ⌝ }
-{
-    let row = rows::LAYOUTS[kind];
-    sum_row(sizes, row)
-}
-
-// The table of a column that is read, by the column's number.
-pub fn column_kind(c: usize) -> usize
-    requires { ⌜ c < 19 ⌝ }
-    ensures { λ r. ⌜ r ≡ readColumn c .kind ⌝ }
-{
-    columns::KINDS[c]
-}
-
-// The bytes of a row before a column that is read.
-pub fn column_offset(sizes: IndexSizes, c: usize) -> u32
-    requires { ⌜ c < 19 ⌝ }
-    ensures { λ r. ⌜ r ≡ offsetIn sizes (readColumn c) ⌝ }
-{
-    let row = columns::BEFORE[c];
-    sum_row(sizes, row)
-}
-
-// The bytes of a column that is read.
-pub fn column_width(sizes: IndexSizes, c: usize) -> u32
-    requires { ⌜ c < 19 ⌝ }
-    ensures { λ r. ⌜ r ≡ bytesIn sizes (readColumn c) ⌝ }
-{
-    let row = columns::WIDTHS[c];
-    sum_row(sizes, row)
+    (a as u32) + (b as u32) + (c as u32) + (d as u32) + (e as u32) + (f as u32)
 }

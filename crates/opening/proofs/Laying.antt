@@ -16,7 +16,7 @@ use Rattle.header.specs.declared.Header.{Header}
 use Rattle.layouts.specs.declared.IndexSizes.{IndexSizes}
 use Rattle.layouts.specs.Read.{Of, readColumns, readColumn, offsetIn, bytesIn}
 use Rattle.layouts.proofs.Reaches.{below}
-use Rattle.layouts.proofs.Codes.{made-at}
+use Rattle.layouts.proofs.Lists.{made-at}
 use Rattle.tables.specs.Extents.{Walked, walkSays, walkReply, extent, onlyEntire, keptRows, sizesIn}
 use Rattle.tables.specs.declared.Extents.{Extents}
 use Rattle.rows.specs.Layout.{columnNumbers, allNumbers, layoutOf}
@@ -71,10 +71,13 @@ turn {all} {l} {c} f h {v0} {v1} {v2} {v3} e0 e1 e2 e3 =
     let r : 4 * c + 3 + 1 ≡ 4 * (c + 1) = omega arith in
     rw r at g
 
+-- What an array of the code has for a column.
+pub read-at : (g : Of → ℕ) (l : List ℕ) → l ≡ map g readColumns → (c : ℕ) → c < 19 → getD l c 0 ≡ g (readColumn c)
+read-at g l e c h = rw e (made-at g (readColumn 19) readColumns c 0 h)
+
 -- The table of a column has a number that an array of 64 has.
-pub kind-below : (c k : ℕ) → c < 19 → k ≡ readColumn c .kind → k < 64
-kind-below c k h e =
-    rw (e ∙ sym (made-at (λ x. x .kind) (readColumn 19) readColumns c 0 h)) (below (map (λ x. x .kind) readColumns) refl c)
+pub kind-below : (kinds : List ℕ) → kinds ≡ map (λ x. x .kind) readColumns → (c : ℕ) → getD kinds c 0 < 64
+kind-below kinds e c = rw e (below (map (λ x. x .kind) readColumns) refl c)
 
 -- The first four of a list.
 front : (x0 x1 x2 x3 : ℕ) (ys : List ℕ) (d : ℕ) → d < 4 → getD (x0 ∷ x1 ∷ x2 ∷ x3 ∷ ys) d 0 ≡ getD (x0 ∷ x1 ∷ x2 ∷ x3 ∷ []) d 0

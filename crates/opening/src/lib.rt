@@ -81,18 +81,19 @@ fn lay(len: usize, first: usize, heap: u8, counts: &[u32; 64], options: Options)
 {
     let security = options.security;
     let sizes = layouts::index_sizes(heap, counts, security);
-    let walk = tables::walk_tables(len, first, heap, counts, security);
+    let walk = tables::walk_tables(len, first, counts, sizes);
     let starts = walk.starts;
     let steps = walk.sizes;
     let rows = walk.rows;
+    let kinds = layouts::columns::column_kinds();
+    let offsets = layouts::columns::column_offsets(sizes);
+    let widths = layouts::columns::column_widths(sizes);
     let mut layout = [0usize; 97];
     for c in 0..19 {
-        let kind = layouts::column_kind(c);
-        let offset = layouts::column_offset(sizes, c);
-        let width = layouts::column_width(sizes, c);
-        layout[4 * c] = starts[kind] + wide(offset);
+        let kind = kinds[c];
+        layout[4 * c] = starts[kind] + wide(offsets[c]);
         layout[4 * c + 1] = wide(steps[kind]);
-        layout[4 * c + 2] = wide(width);
+        layout[4 * c + 2] = wide(widths[c]);
         layout[4 * c + 3] = kept_rows(kind, rows[kind], counts[kind]);
     }
     layout[76] = wide(options.limit);

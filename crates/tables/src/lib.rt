@@ -2,10 +2,11 @@
 // The public calls `walk` and `walk_with` stand in crate `walks`.
 use buffers::Refusal;
 use buffers::Reply;
+use layouts::IndexSizes;
 ghost use mathlib.Core.Path.{_≡_};
-ghost use Prim.Native.Nat.{_-_, _/_, _≤_, _<_, min};
+ghost use Prim.Native.Nat.{ℕ, _-_, _/_, _≤_, _<_, min};
 ghost use Rattle.buffers.specs.Replies.{number};
-ghost use Rattle.layouts.specs.Columns.{indexSizes, widthIn, rowSize};
+ghost use Rattle.layouts.specs.Columns.{widthIn, rowSize};
 ghost use Rattle.tables.specs.Extents.{walkSays, walked, refusedWalk};
 
 // The kind at which the walk is left, 64 if there is none, or why the stream is refused; and for each kind where it begins in the
@@ -44,18 +45,13 @@ pub fn refused_extents(why: Refusal) -> Extents
     }
 }
 
-// The walk over tables whose first begins at a place of a stream of that length.
-pub fn walk_tables(
-    len: usize,
-    first: usize,
-    heap: u8,
-    counts: &[u32; 64],
-    security: bool,
-) -> Extents
+// The walk over tables whose first begins at a place of a stream of that length, with indices of these sizes.
+pub fn walk_tables(len: usize, first: usize, counts: &[u32; 64], index_sizes: IndexSizes) -> Extents
     requires { ⌜ first ≤ len ⌝ }
-    ensures { λ r. ⌜ walkSays r ≡ walked (rowSize (widthIn (indexSizes security heap (now (counts .entry))))) (now (counts .entry)) len first ⌝ }
+    requires { ⌜ ((k : ℕ) → k < 45 → 0 < rowSize (widthIn «index_sizes») k) ⌝ }
+    ensures { λ r. ⌜ walkSays r ≡ walked (rowSize (widthIn «index_sizes»)) (now (counts .entry)) len first ⌝ }
 {
-    let index_sizes = layouts::index_sizes(heap, counts, security);
+    let row_sizes = layouts::rows::row_sizes(index_sizes);
     let mut starts = [0usize; 64];
     let mut sizes = [0u32; 64];
     let mut rows = [0u32; 64];
@@ -70,7 +66,7 @@ pub fn walk_tables(
             if 45 <= kind {
                 break kind;
             }
-            let size = layouts::row_size(index_sizes, kind);
+            let size = row_sizes[kind];
             let whole = whole_rows(len - at, size, n);
             starts[kind] = at;
             sizes[kind] = size;

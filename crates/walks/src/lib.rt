@@ -19,7 +19,10 @@ pub fn walk_with(tables: &[u8], options: Options) -> Extents
     let security = options.security;
     match answer {
         Opened::Refused(why) => tables::refused_extents(why),
-        Opened::Ready => tables::walk_tables(tables.len(), first, heap, &counts, security),
+        Opened::Ready => {
+            let sizes = layouts::index_sizes(heap, &counts, security);
+            tables::walk_tables(tables.len(), first, &counts, sizes)
+        }
     }
 }
 

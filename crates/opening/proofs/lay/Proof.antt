@@ -1,19 +1,23 @@
+use mathlib.Core.Path.{_∙_}
 use Prim.Native.Nat.{_*_, _-_, _≤_}
 use borrow.Author.Needs.{needs}
 use native.Mathlib.Omega.{arith}
+use lib.ListN.{getD}
 use Rattle.header.specs.declared.Opened.the-variants.{Ready}
-use Rattle.layouts.specs.Columns.{indexSizes, widthIn, rowSize}
+use Rattle.layouts.specs.Read.{offsetIn, bytesIn}
+use Rattle.layouts.proofs.Facts.{size-pos}
 use Rattle.tables.specs.Extents.{walkReply}
+use Rattle.tables.proofs.Outcome.{same-walk}
 use Rattle.rows.specs.Layout.{layoutOf}
 use Rattle.opening.proofs.Starts.{start-within}
-use Rattle.opening.proofs.Laying.{Filled, empty, turn, whole, kind-below, first-is, step-is, width-is, kept-is}
+use Rattle.opening.proofs.Laying.{Filled, empty, turn, whole, read-at, kind-below, first-is, step-is, width-is, kept-is}
 use Rattle.opening.proofs.lay.Statement.{statement}
 use Rattle.opening.proofs.lay.Tie as tie
 use Rattle.opening.proofs.lay.Reads as reads
 use Rattle.opening.proofs.lay.Lts as lts
-use Rattle.layouts.proofs.column_kind.Reads as column-kind-reads
-use Rattle.layouts.proofs.column_offset.Reads as column-offset-reads
-use Rattle.layouts.proofs.column_width.Reads as column-width-reads
+use Rattle.layouts.proofs.columns.column_kinds.Reads as column-kinds-reads
+use Rattle.layouts.proofs.columns.column_offsets.Reads as column-offsets-reads
+use Rattle.layouts.proofs.columns.column_widths.Reads as column-widths-reads
 use Rattle.layouts.proofs.index_sizes.Reads as index-sizes-reads
 use Rattle.opening.proofs.flag.Reads as flag-reads
 use Rattle.opening.proofs.kept_rows.Reads as kept-rows-reads
@@ -21,11 +25,11 @@ use Rattle.opening.proofs.wide.Reads as wide-reads
 use Rattle.tables.proofs.walk_tables.Reads as walk-tables-reads
 
 abbrev Inv-loop : tie.InvT-loop
-Inv-loop len first heap counts options security sizes starts steps rows layout₀ c₀ layout c =
+Inv-loop len first heap counts options security starts steps rows kinds offsets widths layout₀ c₀ layout c =
     (c ≤ 19) × Filled (layoutOf options (record { answer = Ready; heap = heap; first = first; counts = counts }) len) layout (4 * c)
 
 abbrev μ-loop : tie.MeasureT-loop
-μ-loop len first heap counts options security sizes starts steps rows layout₀ c₀ layout c = 19 - c
+μ-loop len first heap counts options security starts steps rows kinds offsets widths layout₀ c₀ layout c = 19 - c
 
 -- src/lib.rt:83:9
 index-sizes-requires : tie.Need-index-sizes-requires Inv-loop μ-loop
@@ -33,176 +37,176 @@ index-sizes-requires c κs = search needs
 
 -- src/lib.rt:84:9
 walk-tables-requires : tie.Need-walk-tables-requires Inv-loop μ-loop
-walk-tables-requires c κs = search needs
+walk-tables-requires c κs = (c .before .pre .0, λ k h. rw (c .index-sizes .ensures) (size-pos _ _ _ k h))
 
--- src/lib.rt:89:5
+-- src/lib.rt:88:17
+column-kinds-requires : tie.Need-column-kinds-requires Inv-loop μ-loop
+column-kinds-requires c κs = search needs
+
+-- src/lib.rt:89:19
+column-offsets-requires : tie.Need-column-offsets-requires Inv-loop μ-loop
+column-offsets-requires c κs = search needs
+
+-- src/lib.rt:90:18
+column-widths-requires : tie.Need-column-widths-requires Inv-loop μ-loop
+column-widths-requires c κs = search needs
+
+-- src/lib.rt:92:5
 loop-holds : tie.Need-loop-holds Inv-loop μ-loop
 loop-holds c = (omega arith, empty _)
 
--- src/lib.rt:90:13
-column-kind-requires : tie.Need-column-kind-requires Inv-loop μ-loop
-column-kind-requires c κs = search needs
+-- src/lib.rt:93:20
+mul-kind : tie.Need-mul-kind Inv-loop μ-loop
+mul-kind c = search needs
 
--- src/lib.rt:91:13
-column-offset-requires : tie.Need-column-offset-requires Inv-loop μ-loop
-column-offset-requires c κs = search needs
+-- src/lib.rt:93:20
+array-read-kind : tie.Need-array-read-kind Inv-loop μ-loop
+array-read-kind c = search needs
 
--- src/lib.rt:92:13
-column-width-requires : tie.Need-column-width-requires Inv-loop μ-loop
-column-width-requires c κs = search needs
-
--- src/lib.rt:93:25
+-- src/lib.rt:94:25
 mul-layout : tie.Need-mul-layout Inv-loop μ-loop
-mul-layout c =
-    let k = c .before .before in
-    let b = kind-below _ _ (k .before .loop-test .taken) (k .column-kind .ensures) in
-    omega arith
+mul-layout c = omega (arith, kind-below _ (c .before .before .before .before .column-kinds .ensures) (c .before .loop .c))
 
--- src/lib.rt:93:25
+-- src/lib.rt:94:25
 array-read-layout : tie.Need-array-read-layout Inv-loop μ-loop
-array-read-layout c =
-    let k = c .before .before in
-    let b = kind-below _ _ (k .before .loop-test .taken) (k .column-kind .ensures) in
-    b
+array-read-layout c = kind-below _ (c .before .before .before .before .column-kinds .ensures) _
 
--- src/lib.rt:93:40
+-- src/lib.rt:94:45
+mul-wide : tie.Need-mul-wide Inv-loop μ-loop
+mul-wide c = search needs
+
+-- src/lib.rt:94:45
+array-read-wide : tie.Need-array-read-wide Inv-loop μ-loop
+array-read-wide c = search needs
+
+-- src/lib.rt:94:40
 wide-requires : tie.Need-wide-requires Inv-loop μ-loop
 wide-requires c κs = search needs
 
--- src/lib.rt:93:25
+-- src/lib.rt:94:25
 add-layout : tie.Need-add-layout Inv-loop μ-loop
 add-layout c =
-    let k = c .before .before .before in
-    let walk = k .before .before .before .before .before .before in
+    let l = c .before .before in
+    let kinds = l .before .before .before in
+    let walk = kinds .before .before .before .before in
     let a = walk .before .before in
-    let size = rowSize (widthIn (indexSizes (a .args .options .security) (a .args .heap) (a .args .counts .now))) in
-    let s = start-within size _ _ _ (a .pre .0) (walk .walk-tables .result) (walk .walk-tables .ensures) (k .column-kind .result) in
+    let s = start-within _ _ _ _ (a .pre .0) (walk .walk-tables .result) (walk .walk-tables .ensures) (getD (kinds .column-kinds .result) (l .loop .c) 0) in
     let w = c .wide .ensures .1 in
-    omega (arith, a .pre .1)
+    omega (arith, s, a .pre .1)
 
--- src/lib.rt:93:16
+-- src/lib.rt:94:16
 mul-layout-2 : tie.Need-mul-layout-2 Inv-loop μ-loop
 mul-layout-2 c = search needs
 
--- src/lib.rt:93:9
+-- src/lib.rt:94:9
 mul-layout-3 : tie.Need-mul-layout-3 Inv-loop μ-loop
 mul-layout-3 c = search needs
 
--- src/lib.rt:93:9
+-- src/lib.rt:94:9
 array-write-layout : tie.Need-array-write-layout Inv-loop μ-loop
 array-write-layout c = search needs
 
--- src/lib.rt:94:34
-mul-wide : tie.Need-mul-wide Inv-loop μ-loop
-mul-wide c =
-    let k = c .before .before .before in
-    let b = kind-below _ _ (k .before .loop-test .taken) (k .column-kind .ensures) in
-    omega arith
+-- src/lib.rt:95:34
+mul-wide-2 : tie.Need-mul-wide-2 Inv-loop μ-loop
+mul-wide-2 c = omega (arith, kind-below _ (c .before .before .before .before .before .column-kinds .ensures) (c .before .before .loop .c))
 
--- src/lib.rt:94:34
-array-read-wide : tie.Need-array-read-wide Inv-loop μ-loop
-array-read-wide c =
-    let k = c .before .before .before in
-    let b = kind-below _ _ (k .before .loop-test .taken) (k .column-kind .ensures) in
-    b
+-- src/lib.rt:95:34
+array-read-wide-2 : tie.Need-array-read-wide-2 Inv-loop μ-loop
+array-read-wide-2 c = kind-below _ (c .before .before .before .before .before .column-kinds .ensures) _
 
--- src/lib.rt:94:29
+-- src/lib.rt:95:29
 wide-requires-2 : tie.Need-wide-requires-2 Inv-loop μ-loop
 wide-requires-2 c κs = search needs
 
--- src/lib.rt:94:16
+-- src/lib.rt:95:16
 mul-layout-4 : tie.Need-mul-layout-4 Inv-loop μ-loop
 mul-layout-4 c = search needs
 
--- src/lib.rt:94:16
+-- src/lib.rt:95:16
 add-layout-2 : tie.Need-add-layout-2 Inv-loop μ-loop
 add-layout-2 c = search needs
 
--- src/lib.rt:94:9
+-- src/lib.rt:95:9
 mul-layout-5 : tie.Need-mul-layout-5 Inv-loop μ-loop
 mul-layout-5 c = search needs
 
--- src/lib.rt:94:9
+-- src/lib.rt:95:9
 array-write-layout-2 : tie.Need-array-write-layout-2 Inv-loop μ-loop
 array-write-layout-2 c = search needs
 
--- src/lib.rt:95:29
+-- src/lib.rt:96:34
+mul-wide-3 : tie.Need-mul-wide-3 Inv-loop μ-loop
+mul-wide-3 c = search needs
+
+-- src/lib.rt:96:34
+array-read-wide-3 : tie.Need-array-read-wide-3 Inv-loop μ-loop
+array-read-wide-3 c = search needs
+
+-- src/lib.rt:96:29
 wide-requires-3 : tie.Need-wide-requires-3 Inv-loop μ-loop
 wide-requires-3 c κs = search needs
 
--- src/lib.rt:95:16
+-- src/lib.rt:96:16
 mul-layout-6 : tie.Need-mul-layout-6 Inv-loop μ-loop
 mul-layout-6 c = search needs
 
--- src/lib.rt:95:16
+-- src/lib.rt:96:16
 add-layout-3 : tie.Need-add-layout-3 Inv-loop μ-loop
 add-layout-3 c = search needs
 
--- src/lib.rt:95:9
+-- src/lib.rt:96:9
 mul-layout-7 : tie.Need-mul-layout-7 Inv-loop μ-loop
 mul-layout-7 c = search needs
 
--- src/lib.rt:95:9
+-- src/lib.rt:96:9
 array-write-layout-3 : tie.Need-array-write-layout-3 Inv-loop μ-loop
 array-write-layout-3 c = search needs
 
--- src/lib.rt:96:45
+-- src/lib.rt:97:45
 mul-kept-rows : tie.Need-mul-kept-rows Inv-loop μ-loop
-mul-kept-rows c =
-    let k = c .before .before .before .before .before in
-    let b = kind-below _ _ (k .before .loop-test .taken) (k .column-kind .ensures) in
-    omega arith
+mul-kept-rows c = omega (arith, kind-below _ (c .before .before .before .before .before .before .before .column-kinds .ensures) (c .before .before .before .before .loop .c))
 
--- src/lib.rt:96:45
+-- src/lib.rt:97:45
 array-read-kept-rows : tie.Need-array-read-kept-rows Inv-loop μ-loop
-array-read-kept-rows c =
-    let k = c .before .before .before .before .before in
-    let b = kind-below _ _ (k .before .loop-test .taken) (k .column-kind .ensures) in
-    b
+array-read-kept-rows c = kind-below _ (c .before .before .before .before .before .before .before .column-kinds .ensures) _
 
--- src/lib.rt:96:57
+-- src/lib.rt:97:57
 mul-kept-rows-2 : tie.Need-mul-kept-rows-2 Inv-loop μ-loop
-mul-kept-rows-2 c =
-    let k = c .before .before .before .before .before in
-    let b = kind-below _ _ (k .before .loop-test .taken) (k .column-kind .ensures) in
-    omega arith
+mul-kept-rows-2 c = omega (arith, kind-below _ (c .before .before .before .before .before .before .before .column-kinds .ensures) (c .before .before .before .before .loop .c))
 
--- src/lib.rt:96:57
+-- src/lib.rt:97:57
 element-copy-out-kept-rows : tie.Need-element-copy-out-kept-rows Inv-loop μ-loop
-element-copy-out-kept-rows c =
-    let k = c .before .before .before .before .before in
-    let b = kind-below _ _ (k .before .loop-test .taken) (k .column-kind .ensures) in
-    b
+element-copy-out-kept-rows c = kind-below _ (c .before .before .before .before .before .before .before .column-kinds .ensures) _
 
--- src/lib.rt:96:29
+-- src/lib.rt:97:29
 kept-rows-requires : tie.Need-kept-rows-requires Inv-loop μ-loop
 kept-rows-requires c κs = search needs
 
--- src/lib.rt:96:16
+-- src/lib.rt:97:16
 mul-layout-8 : tie.Need-mul-layout-8 Inv-loop μ-loop
 mul-layout-8 c = search needs
 
--- src/lib.rt:96:16
+-- src/lib.rt:97:16
 add-layout-4 : tie.Need-add-layout-4 Inv-loop μ-loop
 add-layout-4 c = search needs
 
--- src/lib.rt:96:9
+-- src/lib.rt:97:9
 mul-layout-9 : tie.Need-mul-layout-9 Inv-loop μ-loop
 mul-layout-9 c = search needs
 
--- src/lib.rt:96:9
+-- src/lib.rt:97:9
 array-write-layout-4 : tie.Need-array-write-layout-4 Inv-loop μ-loop
 array-write-layout-4 c = search needs
 
--- src/lib.rt:89:9
+-- src/lib.rt:92:9
 add-c : tie.Need-add-c Inv-loop μ-loop
 add-c c = search needs
 
--- src/lib.rt:89:5
+-- src/lib.rt:92:5
 loop-less : tie.Need-loop-less Inv-loop μ-loop
 loop-less c = search needs
 
--- src/lib.rt:89:5
+-- src/lib.rt:92:5
 loop-again : tie.Need-loop-again Inv-loop μ-loop
 unfolding walkReply
 loop-again c =
@@ -210,39 +214,38 @@ loop-again c =
     let three = kept .before .before in
     let two = three .before in
     let one = two .before in
-    let width = one .before in
-    let offset = width .before in
-    let kind = offset .before in
-    let test = kind .before in
+    let test = one .before in
     let l = test .before in
-    let walk = l .before .before .before .before in
-    let sizes = walk .before in
+    let widths = l .before in
+    let offsets = widths .before in
+    let kinds = offsets .before in
+    let walk = kinds .before .before .before .before in
     let here = test .loop-test .taken in
-    let k = kind .column-kind .ensures in
+    let k = read-at (λ x. x .kind) _ (kinds .column-kinds .ensures) _ here in
+    let w = walk .before .index-sizes .ensures in
     let r = walk .walk-tables .result in
-    let e = walk .walk-tables .ensures in
-    let w = sizes .index-sizes .ensures in (
+    let e = walk .walk-tables .ensures ∙ same-walk w _ _ _ in (
       omega arith,
       turn (l .loop .inv .1) here
-          (first-is _ _ _ r e _ _ here k _ _ _ w (offset .column-offset .ensures) (one .wide .ensures .0))
+          (first-is _ _ _ r e _ _ here k _ _ _ w (read-at (offsetIn _) _ (offsets .column-offsets .ensures) _ here) (one .wide .ensures .0))
           (step-is _ _ _ r e _ _ here k _ (two .wide2 .ensures .0))
-          (width-is _ _ _ _ here _ _ _ w (width .column-width .ensures) (three .wide3 .ensures .0))
+          (width-is _ _ _ _ here _ _ _ w (read-at (bytesIn _) _ (widths .column-widths .ensures) _ here) (three .wide3 .ensures .0))
           (kept-is _ _ _ r e _ _ here k _ (kept .kept-rows .ensures)),
     )
 
--- src/lib.rt:98:18
+-- src/lib.rt:99:18
 wide-requires-4 : tie.Need-wide-requires-4 Inv-loop μ-loop
 wide-requires-4 c κs = search needs
 
--- src/lib.rt:98:5
+-- src/lib.rt:99:5
 array-write-layout-5 : tie.Need-array-write-layout-5 Inv-loop μ-loop
 array-write-layout-5 c = search needs
 
--- src/lib.rt:99:18
+-- src/lib.rt:100:18
 flag-requires : tie.Need-flag-requires Inv-loop μ-loop
 flag-requires c κs = search needs
 
--- src/lib.rt:99:5
+-- src/lib.rt:100:5
 array-write-layout-6 : tie.Need-array-write-layout-6 Inv-loop μ-loop
 array-write-layout-6 c = search needs
 
@@ -261,24 +264,30 @@ lay-spec =
     μ-loop
     index-sizes-requires
     walk-tables-requires
+    column-kinds-requires
+    column-offsets-requires
+    column-widths-requires
     loop-holds
-    column-kind-requires
-    column-offset-requires
-    column-width-requires
+    mul-kind
+    array-read-kind
     mul-layout
     array-read-layout
+    mul-wide
+    array-read-wide
     wide-requires
     add-layout
     mul-layout-2
     mul-layout-3
     array-write-layout
-    mul-wide
-    array-read-wide
+    mul-wide-2
+    array-read-wide-2
     wide-requires-2
     mul-layout-4
     add-layout-2
     mul-layout-5
     array-write-layout-2
+    mul-wide-3
+    array-read-wide-3
     wide-requires-3
     mul-layout-6
     add-layout-3

@@ -1,12 +1,14 @@
 use mathlib.Core.Path.{_∙_}
 use Rattle.header.proofs.Cases.{first-within}
-use Rattle.tables.proofs.Outcome.{is-refused, is-walked}
+use Rattle.layouts.proofs.Facts.{size-pos}
+use Rattle.tables.proofs.Outcome.{is-refused, is-walked, same-walk}
 use borrow.Author.Needs.{needs}
 use Rattle.walks.proofs.walk_with.Statement.{statement}
 use Rattle.walks.proofs.walk_with.Tie as tie
 use Rattle.walks.proofs.walk_with.Reads as reads
 use Rattle.walks.proofs.walk_with.Lts as lts
 use Rattle.header.proofs.open_stream.Reads as open-stream-reads
+use Rattle.layouts.proofs.index_sizes.Reads as index-sizes-reads
 use Rattle.tables.proofs.refused_extents.Reads as refused-extents-reads
 use Rattle.tables.proofs.walk_tables.Reads as walk-tables-reads
 
@@ -22,13 +24,21 @@ enum-known-answer c = search needs
 refused-extents-requires : tie.Need-refused-extents-requires
 refused-extents-requires c κs = search needs
 
--- src/lib.rt:22:46
+-- src/lib.rt:23:52
 enum-told : tie.Need-enum-told
 enum-told c = search needs
 
--- src/lib.rt:22:26
+-- src/lib.rt:23:17
+index-sizes-requires : tie.Need-index-sizes-requires
+index-sizes-requires c κs = search needs
+
+-- src/lib.rt:24:13
 walk-tables-requires : tie.Need-walk-tables-requires
-walk-tables-requires c κs = rw (c .before .before .before .before .open-stream .ensures) (first-within _ _)
+walk-tables-requires c κs =
+    let sizes = c .before in (
+      rw (sizes .before .before .before .before .before .open-stream .ensures) (first-within _ _),
+      λ k h. rw (sizes .index-sizes .ensures) (size-pos _ _ _ k h),
+    )
 
 -- src/lib.rt:11:1
 returns : tie.Need-returns
@@ -38,7 +48,11 @@ returns c =
 
 -- src/lib.rt:11:1
 returns-2 : tie.Need-returns-2
-returns-2 c = c .walk-tables .ensures ∙ is-walked _ _ _ (c .before .before .before .before .before .open-stream .ensures) (c .before .before .enum-told .given .1)
+returns-2 c =
+    let sizes = c .before .before in
+    let told = sizes .before .before in
+    c .walk-tables .ensures ∙ same-walk (sizes .index-sizes .ensures) _ _ _
+    ∙ is-walked _ _ _ (told .before .before .before .open-stream .ensures) (told .enum-told .given .1)
 
 pub walk-with-spec : {M : Type 1} → statement M
 walk-with-spec =
@@ -48,6 +62,7 @@ walk-with-spec =
     enum-known-answer
     refused-extents-requires
     enum-told
+    index-sizes-requires
     walk-tables-requires
     returns
     returns-2)
