@@ -6,6 +6,7 @@ use Prim.Native.Nat.{ℕ, zero, suc, _+_, _*_, _-_, _/_, _%_, _^_, _≤_, _<_}
 use native.Mathlib.Nat.{add-zero, add-suc, not-suc-le-zero}
 use native.Mathlib.Numerals.{add-one}
 use native.Mathlib.Omega.{arith}
+use native.Mathlib.Decide.{decLt}
 use borrow.Author.Count.{below-more}
 use borrow.Author.Tests.{lt-ltb, le-ltb, eq-eqb, ne-eqb}
 use lib.Dec.{ltb}
@@ -99,10 +100,32 @@ module _ (limit : ℕ) (s counts : List ℕ) (m at kind : ℕ) (i : Counting lim
         few = few-more limit s kind (i .few) (omega arith);
       }
 
-  pub done : 64 ≤ kind → CountsRead limit s false counts
+  -- While a bit is left, the kind is one of the 64.
+  pub some-left : 0 < m → (v : ℕ) → v ≡ valid s → v < 2 ^ 64 → kind < 64
+  some-left h v f l = go (decLt kind 64)
+    where
+      go : Dec (kind < 64) → kind < 64
+      go (yes y) = y
+      go (no y) =
+          let e : kind ≡ 64 = omega (arith, i .low) in
+          let z : m ≡ valid s / 2 ^ 64 = rw e at (i .mask) in
+          absurd (omega arith)
+
+  done : 64 ≤ kind → CountsRead limit s false counts
   done h =
       let e : kind ≡ 64 = omega (arith, i .low) in
       record {
         tells = sym (rw e at (i .few));
         all = λ _. table-is (rowCount s) 0 64 counts (i .size) (λ k p. i .read k (omega arith));
       }
+
+-- Where no bit is left, the kinds from there on are empty.
+to-end : (limit : ℕ) (s counts : List ℕ) (at kind d : ℕ) → kind + d ≡ 64 → Counting limit s counts 0 at kind → Counting limit s counts 0 at 64
+to-end limit s counts at kind zero e i = let f : kind ≡ 64 = omega arith in rw f at i
+to-end limit s counts at kind (suc d) e i =
+    to-end limit s counts at (kind + 1) d (omega arith) (skipped limit s counts 0 at kind i (omega arith) (λ b. omega arith))
+
+pub none-left : (limit : ℕ) (s counts : List ℕ) (m at kind : ℕ) → Counting limit s counts m at kind → m ≤ 0 → CountsRead limit s false counts
+none-left limit s counts m at kind i h =
+    let e : m ≡ 0 = omega arith in
+    done limit s counts 0 at 64 (to-end limit s counts at kind (64 - kind) (omega (arith, i .low)) (rw e at i)) (omega arith)

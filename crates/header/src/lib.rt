@@ -57,17 +57,7 @@ fn refuse(why: Refusal) -> Header
 fn count_ones(mask: u64) -> usize
     ensures { λ r. ⌜ r ≡ onesBelow mask 64 ⌝ }
 {
-    let mut m = mask;
-    let mut kind: usize = 0;
-    let mut n: usize = 0;
-    while kind < 64 {
-        if m % 2 == 1 {
-            n += 1;
-        }
-        m = m / 2;
-        kind += 1;
-    }
-    n
+    u64::count_ones(mask) as usize
 }
 
 // A count for each set bit of the mask, lowest bit first.
@@ -79,7 +69,7 @@ fn read_counts(s: &[u8], mask: u64, limit: u32) -> Counts
     let mut m = mask;
     let mut at = 24;
     let mut kind = 0;
-    while kind < 64 {
+    while 0 < m {
         if m % 2 == 1 {
             let n = numbers::read_word(s, at, 4);
             if limit < n {
