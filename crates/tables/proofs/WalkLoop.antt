@@ -3,13 +3,14 @@ use mathlib.Core.Path.{_≡_, refl, ap, sym, _∙_}
 use mathlib.Core.Bool.{Bool, true, false, cond}
 use mathlib.Core.List.{List}
 use mathlib.Core.Logic.{dite}
-use Prim.Native.Nat.{ℕ, zero, suc, _+_, _*_, _-_, _/_, _≤_, _<_, min}
-use native.Mathlib.Nat.{not-suc-le-zero, le-div-iff-mul-le, div-lt-iff-lt-mul}
+use Prim.Native.Nat.{ℕ, zero, suc, _+_, _*_, _-_, _/_, _^_, _≤_, _<_, min}
+use native.Mathlib.Nat.{not-suc-le-zero, lt-of-le-of-lt, mul-le-mul, le-div-iff-mul-le, div-lt-iff-lt-mul}
 use native.Mathlib.Numerals.{add-one}
 use native.Mathlib.Omega.{arith}
 use native.Mathlib.Decide.{decLt}
 use borrow.Author.Count.{below-more}
 use borrow.Author.Tests.{lt-ltb, le-ltb, le-leb, lt-leb}
+use lib.Dec.{lit<}
 use lib.ListN.{length, getD, set, length-set, replicate, getD-replicate}
 use lib.Seq.{getD-set-same, getD-set-other}
 use Rattle.numbers.specs.Lists.{tabulate}
@@ -24,12 +25,20 @@ fits n size room h k = le-div-iff-mul-le h .0 k
 pub fits-not : (n size room : ℕ) → 0 < size → room / size < n → room < n * size
 fits-not n size room h k = div-lt-iff-lt-mul h .0 k
 
--- the least of n and what fits, as `whole_rows` computes it at a and b, which are size and n
-pub least-fit : (room size n a b : ℕ) → a ≡ size → b ≡ n → room / a < b → room / a ≡ min n (room / size)
-least-fit room size n a b e f h = rw e (omega (arith, rw e at h))
+-- The code of `whole_rows` has a, b and d for n and twice size: their product is a number of 64 bits, and where it is no more than the
+-- room, all n rows are whole.
+pub product-fits : (a b : ℕ) → a < 2 ^ 32 → b < 2 ^ 32 → a * b < 2 ^ 64
+product-fits a b h k = lt-of-le-of-lt (mul-le-mul {n₂ = 4294967295} {m₂ = 4294967295} (omega arith) (omega arith)) (lit< tt)
 
-pub least-all : (room size n a b : ℕ) → a ≡ size → b ≡ n → b ≤ room / a → n ≡ min n (room / size)
-least-all room size n a b e f h = omega (arith, rw e at h)
+module _ (room size n a b : ℕ) (ea : a ≡ n) (eb : b ≡ size) (some : 0 < size) where
+  pub all-fit : a * b ≤ room → n ≡ min n (room / size)
+  all-fit h = omega (arith, le-div-iff-mul-le some .1 (rw (ea, eb) at h))
+
+  pub few-fit : (d : ℕ) → d ≡ size → room < a * b → room / d < n
+  few-fit d e h = rw e (div-lt-iff-lt-mul some .1 (rw (ea, eb) at h))
+
+  pub least-fit : (d : ℕ) → d ≡ size → room < a * b → room / d ≡ min n (room / size)
+  least-fit d e h = let k = few-fit size refl h in rw e (omega arith)
 
 module _ (size : ℕ → ℕ) (counts : List ℕ) (n first : ℕ) where
   -- an array that holds g at each isTable kind below `kind`, and 0 elsewhere

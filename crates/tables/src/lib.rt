@@ -29,8 +29,10 @@ fn whole_rows(room: usize, size: u32, n: u32) -> u32
     requires { ⌜ 0 < size ⌝ }
     ensures { λ r. ⌜ r ≡ min n (room / size) ⌝ }
 {
-    let fit = room / wide(size);
-    if fit < wide(n) { fit as u32 } else { n }
+    if wide(n) * wide(size) <= room {
+        return n;
+    }
+    (room / wide(size)) as u32
 }
 
 // The extents of a stream that is refused.
