@@ -82,19 +82,16 @@ fn lay(len: usize, first: usize, heap: u8, counts: &[u32; 64], options: Options)
     let security = options.security;
     let sizes = layouts::index_sizes(heap, counts, security);
     let walk = tables::walk_tables(len, first, counts, sizes);
-    let starts = walk.starts;
-    let steps = walk.sizes;
-    let rows = walk.rows;
     let kinds = layouts::columns::column_kinds();
     let offsets = layouts::columns::column_offsets(sizes);
     let widths = layouts::columns::column_widths(sizes);
     let mut layout = [0usize; 97];
     for c in 0..19 {
         let kind = kinds[c];
-        layout[4 * c] = starts[kind] + wide(offsets[c]);
-        layout[4 * c + 1] = wide(steps[kind]);
+        layout[4 * c] = walk.starts[kind] + wide(offsets[c]);
+        layout[4 * c + 1] = wide(walk.sizes[kind]);
         layout[4 * c + 2] = wide(widths[c]);
-        layout[4 * c + 3] = kept_rows(kind, rows[kind], counts[kind]);
+        layout[4 * c + 3] = kept_rows(kind, walk.rows[kind], counts[kind]);
     }
     layout[76] = wide(options.limit);
     layout[77] = flag(security);
@@ -115,13 +112,12 @@ pub fn open(tables: &[u8], options: Options) -> Opening
 {
     let h = header::open_stream(tables, options);
     let answer = h.answer;
-    let counts = h.counts;
     let first = h.first;
     let heap = h.heap;
     match answer {
         Opened::Refused(why) => refuse(why),
         Opened::Ready => {
-            let layout = lay(tables.len(), first, heap, &counts, options);
+            let layout = lay(tables.len(), first, heap, &h.counts, options);
             Opening {
                 answer: Opened::Ready,
                 layout,

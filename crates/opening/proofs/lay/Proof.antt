@@ -25,201 +25,201 @@ use Rattle.opening.proofs.wide.Reads as wide-reads
 use Rattle.tables.proofs.walk_tables.Reads as walk-tables-reads
 
 abbrev Inv-loop : tie.InvT-loop
-Inv-loop len first heap counts options security starts steps rows kinds offsets widths layout₀ c₀ layout c =
+Inv-loop len first heap counts options security walk kinds offsets widths layout₀ c₀ layout c =
     (c ≤ 19) × Filled (layoutOf options (record { answer = Ready; heap = heap; first = first; counts = counts }) len) layout (4 * c)
 
 abbrev μ-loop : tie.MeasureT-loop
-μ-loop len first heap counts options security starts steps rows kinds offsets widths layout₀ c₀ layout c = 19 - c
+μ-loop len first heap counts options security walk kinds offsets widths layout₀ c₀ layout c = 19 - c
 
 -- src/lib.rt:83:9
 index-sizes-requires : tie.Need-index-sizes-requires Inv-loop μ-loop
 index-sizes-requires c κs = search needs
 
--- src/lib.rt:84:9
+-- src/lib.rt:84:16
 walk-tables-requires : tie.Need-walk-tables-requires Inv-loop μ-loop
 walk-tables-requires c κs = (c .before .pre .0, λ k h. rw (c .index-sizes .ensures) (size-pos _ _ _ k h))
 
--- src/lib.rt:88:17
+-- src/lib.rt:85:17
 column-kinds-requires : tie.Need-column-kinds-requires Inv-loop μ-loop
 column-kinds-requires c κs = search needs
 
--- src/lib.rt:89:19
+-- src/lib.rt:86:19
 column-offsets-requires : tie.Need-column-offsets-requires Inv-loop μ-loop
 column-offsets-requires c κs = search needs
 
--- src/lib.rt:90:18
+-- src/lib.rt:87:18
 column-widths-requires : tie.Need-column-widths-requires Inv-loop μ-loop
 column-widths-requires c κs = search needs
 
--- src/lib.rt:92:5
+-- src/lib.rt:89:5
 loop-holds : tie.Need-loop-holds Inv-loop μ-loop
 loop-holds c = (omega arith, empty _)
 
--- src/lib.rt:93:20
+-- src/lib.rt:90:20
 mul-kind : tie.Need-mul-kind Inv-loop μ-loop
 mul-kind c = search needs
 
--- src/lib.rt:93:20
+-- src/lib.rt:90:20
 array-read-kind : tie.Need-array-read-kind Inv-loop μ-loop
 array-read-kind c = search needs
 
--- src/lib.rt:94:25
+-- src/lib.rt:91:25
 mul-layout : tie.Need-mul-layout Inv-loop μ-loop
 mul-layout c = omega (arith, kind-below _ (c .before .before .before .before .column-kinds .ensures) (c .before .loop .c))
 
--- src/lib.rt:94:25
-array-read-layout : tie.Need-array-read-layout Inv-loop μ-loop
-array-read-layout c = kind-below _ (c .before .before .before .before .column-kinds .ensures) _
+-- src/lib.rt:91:25
+element-copy-out-layout : tie.Need-element-copy-out-layout Inv-loop μ-loop
+element-copy-out-layout c = kind-below _ (c .before .before .before .before .column-kinds .ensures) _
 
--- src/lib.rt:94:45
+-- src/lib.rt:91:50
 mul-wide : tie.Need-mul-wide Inv-loop μ-loop
 mul-wide c = search needs
 
--- src/lib.rt:94:45
+-- src/lib.rt:91:50
 array-read-wide : tie.Need-array-read-wide Inv-loop μ-loop
 array-read-wide c = search needs
 
--- src/lib.rt:94:40
+-- src/lib.rt:91:45
 wide-requires : tie.Need-wide-requires Inv-loop μ-loop
 wide-requires c κs = search needs
 
--- src/lib.rt:94:25
+-- src/lib.rt:91:25
 add-layout : tie.Need-add-layout Inv-loop μ-loop
 add-layout c =
-    let l = c .before .before in
+    let l = c .before .before .before in
     let kinds = l .before .before .before in
-    let walk = kinds .before .before .before .before in
+    let walk = kinds .before in
     let a = walk .before .before in
     let s = start-within _ _ _ _ (a .pre .0) (walk .walk-tables .result) (walk .walk-tables .ensures) (getD (kinds .column-kinds .result) (l .loop .c) 0) in
     let w = c .wide .ensures .1 in
     omega (arith, s, a .pre .1)
 
--- src/lib.rt:94:16
+-- src/lib.rt:91:16
 mul-layout-2 : tie.Need-mul-layout-2 Inv-loop μ-loop
 mul-layout-2 c = search needs
 
--- src/lib.rt:94:9
+-- src/lib.rt:91:9
 mul-layout-3 : tie.Need-mul-layout-3 Inv-loop μ-loop
 mul-layout-3 c = search needs
 
--- src/lib.rt:94:9
+-- src/lib.rt:91:9
 array-write-layout : tie.Need-array-write-layout Inv-loop μ-loop
 array-write-layout c = search needs
 
--- src/lib.rt:95:34
+-- src/lib.rt:92:34
 mul-wide-2 : tie.Need-mul-wide-2 Inv-loop μ-loop
-mul-wide-2 c = omega (arith, kind-below _ (c .before .before .before .before .before .column-kinds .ensures) (c .before .before .loop .c))
+mul-wide-2 c = omega (arith, kind-below _ (c .before .before .before .before .before .before .column-kinds .ensures) (c .before .before .before .loop .c))
 
--- src/lib.rt:95:34
-array-read-wide-2 : tie.Need-array-read-wide-2 Inv-loop μ-loop
-array-read-wide-2 c = kind-below _ (c .before .before .before .before .before .column-kinds .ensures) _
+-- src/lib.rt:92:34
+element-copy-out-wide : tie.Need-element-copy-out-wide Inv-loop μ-loop
+element-copy-out-wide c = kind-below _ (c .before .before .before .before .before .before .column-kinds .ensures) _
 
--- src/lib.rt:95:29
+-- src/lib.rt:92:29
 wide-requires-2 : tie.Need-wide-requires-2 Inv-loop μ-loop
 wide-requires-2 c κs = search needs
 
--- src/lib.rt:95:16
+-- src/lib.rt:92:16
 mul-layout-4 : tie.Need-mul-layout-4 Inv-loop μ-loop
 mul-layout-4 c = search needs
 
--- src/lib.rt:95:16
+-- src/lib.rt:92:16
 add-layout-2 : tie.Need-add-layout-2 Inv-loop μ-loop
 add-layout-2 c = search needs
 
--- src/lib.rt:95:9
+-- src/lib.rt:92:9
 mul-layout-5 : tie.Need-mul-layout-5 Inv-loop μ-loop
 mul-layout-5 c = search needs
 
--- src/lib.rt:95:9
+-- src/lib.rt:92:9
 array-write-layout-2 : tie.Need-array-write-layout-2 Inv-loop μ-loop
 array-write-layout-2 c = search needs
 
--- src/lib.rt:96:34
+-- src/lib.rt:93:34
 mul-wide-3 : tie.Need-mul-wide-3 Inv-loop μ-loop
 mul-wide-3 c = search needs
 
--- src/lib.rt:96:34
-array-read-wide-3 : tie.Need-array-read-wide-3 Inv-loop μ-loop
-array-read-wide-3 c = search needs
+-- src/lib.rt:93:34
+array-read-wide-2 : tie.Need-array-read-wide-2 Inv-loop μ-loop
+array-read-wide-2 c = search needs
 
--- src/lib.rt:96:29
+-- src/lib.rt:93:29
 wide-requires-3 : tie.Need-wide-requires-3 Inv-loop μ-loop
 wide-requires-3 c κs = search needs
 
--- src/lib.rt:96:16
+-- src/lib.rt:93:16
 mul-layout-6 : tie.Need-mul-layout-6 Inv-loop μ-loop
 mul-layout-6 c = search needs
 
--- src/lib.rt:96:16
+-- src/lib.rt:93:16
 add-layout-3 : tie.Need-add-layout-3 Inv-loop μ-loop
 add-layout-3 c = search needs
 
--- src/lib.rt:96:9
+-- src/lib.rt:93:9
 mul-layout-7 : tie.Need-mul-layout-7 Inv-loop μ-loop
 mul-layout-7 c = search needs
 
--- src/lib.rt:96:9
+-- src/lib.rt:93:9
 array-write-layout-3 : tie.Need-array-write-layout-3 Inv-loop μ-loop
 array-write-layout-3 c = search needs
 
--- src/lib.rt:97:45
+-- src/lib.rt:94:45
 mul-kept-rows : tie.Need-mul-kept-rows Inv-loop μ-loop
-mul-kept-rows c = omega (arith, kind-below _ (c .before .before .before .before .before .before .before .column-kinds .ensures) (c .before .before .before .before .loop .c))
+mul-kept-rows c = omega (arith, kind-below _ (c .before .before .before .before .before .before .before .before .before .column-kinds .ensures) (c .before .before .before .before .before .before .loop .c))
 
--- src/lib.rt:97:45
-array-read-kept-rows : tie.Need-array-read-kept-rows Inv-loop μ-loop
-array-read-kept-rows c = kind-below _ (c .before .before .before .before .before .before .before .column-kinds .ensures) _
-
--- src/lib.rt:97:57
-mul-kept-rows-2 : tie.Need-mul-kept-rows-2 Inv-loop μ-loop
-mul-kept-rows-2 c = omega (arith, kind-below _ (c .before .before .before .before .before .before .before .column-kinds .ensures) (c .before .before .before .before .loop .c))
-
--- src/lib.rt:97:57
+-- src/lib.rt:94:45
 element-copy-out-kept-rows : tie.Need-element-copy-out-kept-rows Inv-loop μ-loop
-element-copy-out-kept-rows c = kind-below _ (c .before .before .before .before .before .before .before .column-kinds .ensures) _
+element-copy-out-kept-rows c = kind-below _ (c .before .before .before .before .before .before .before .before .before .column-kinds .ensures) _
 
--- src/lib.rt:97:29
+-- src/lib.rt:94:62
+mul-kept-rows-2 : tie.Need-mul-kept-rows-2 Inv-loop μ-loop
+mul-kept-rows-2 c = omega (arith, kind-below _ (c .before .before .before .before .before .before .before .before .before .before .column-kinds .ensures) (c .before .before .before .before .before .before .before .loop .c))
+
+-- src/lib.rt:94:62
+element-copy-out-kept-rows-2 : tie.Need-element-copy-out-kept-rows-2 Inv-loop μ-loop
+element-copy-out-kept-rows-2 c = kind-below _ (c .before .before .before .before .before .before .before .before .before .before .column-kinds .ensures) _
+
+-- src/lib.rt:94:29
 kept-rows-requires : tie.Need-kept-rows-requires Inv-loop μ-loop
 kept-rows-requires c κs = search needs
 
--- src/lib.rt:97:16
+-- src/lib.rt:94:16
 mul-layout-8 : tie.Need-mul-layout-8 Inv-loop μ-loop
 mul-layout-8 c = search needs
 
--- src/lib.rt:97:16
+-- src/lib.rt:94:16
 add-layout-4 : tie.Need-add-layout-4 Inv-loop μ-loop
 add-layout-4 c = search needs
 
--- src/lib.rt:97:9
+-- src/lib.rt:94:9
 mul-layout-9 : tie.Need-mul-layout-9 Inv-loop μ-loop
 mul-layout-9 c = search needs
 
--- src/lib.rt:97:9
+-- src/lib.rt:94:9
 array-write-layout-4 : tie.Need-array-write-layout-4 Inv-loop μ-loop
 array-write-layout-4 c = search needs
 
--- src/lib.rt:92:9
+-- src/lib.rt:89:9
 add-c : tie.Need-add-c Inv-loop μ-loop
 add-c c = search needs
 
--- src/lib.rt:92:5
+-- src/lib.rt:89:5
 loop-less : tie.Need-loop-less Inv-loop μ-loop
 loop-less c = search needs
 
--- src/lib.rt:92:5
+-- src/lib.rt:89:5
 loop-again : tie.Need-loop-again Inv-loop μ-loop
 unfolding walkReply
 loop-again c =
     let kept = c in
-    let three = kept .before .before in
+    let three = kept .before .before .before in
     let two = three .before in
-    let one = two .before in
-    let test = one .before in
+    let one = two .before .before in
+    let test = one .before .before in
     let l = test .before in
     let widths = l .before in
     let offsets = widths .before in
     let kinds = offsets .before in
-    let walk = kinds .before .before .before .before in
+    let walk = kinds .before in
     let here = test .loop-test .taken in
     let k = read-at (λ x. x .kind) _ (kinds .column-kinds .ensures) _ here in
     let w = walk .before .index-sizes .ensures in
@@ -233,19 +233,19 @@ loop-again c =
           (kept-is _ _ _ r e _ _ here k _ (kept .kept-rows .ensures)),
     )
 
--- src/lib.rt:99:18
+-- src/lib.rt:96:18
 wide-requires-4 : tie.Need-wide-requires-4 Inv-loop μ-loop
 wide-requires-4 c κs = search needs
 
--- src/lib.rt:99:5
+-- src/lib.rt:96:5
 array-write-layout-5 : tie.Need-array-write-layout-5 Inv-loop μ-loop
 array-write-layout-5 c = search needs
 
--- src/lib.rt:100:18
+-- src/lib.rt:97:18
 flag-requires : tie.Need-flag-requires Inv-loop μ-loop
 flag-requires c κs = search needs
 
--- src/lib.rt:100:5
+-- src/lib.rt:97:5
 array-write-layout-6 : tie.Need-array-write-layout-6 Inv-loop μ-loop
 array-write-layout-6 c = search needs
 
@@ -271,7 +271,7 @@ lay-spec =
     mul-kind
     array-read-kind
     mul-layout
-    array-read-layout
+    element-copy-out-layout
     mul-wide
     array-read-wide
     wide-requires
@@ -280,23 +280,23 @@ lay-spec =
     mul-layout-3
     array-write-layout
     mul-wide-2
-    array-read-wide-2
+    element-copy-out-wide
     wide-requires-2
     mul-layout-4
     add-layout-2
     mul-layout-5
     array-write-layout-2
     mul-wide-3
-    array-read-wide-3
+    array-read-wide-2
     wide-requires-3
     mul-layout-6
     add-layout-3
     mul-layout-7
     array-write-layout-3
     mul-kept-rows
-    array-read-kept-rows
-    mul-kept-rows-2
     element-copy-out-kept-rows
+    mul-kept-rows-2
+    element-copy-out-kept-rows-2
     kept-rows-requires
     mul-layout-8
     add-layout-4

@@ -31,11 +31,11 @@ lay-requires c κs = (rw (c .before .before .before .before .open-stream .ensure
 
 -- src/lib.rt:112:1
 returns : tie.Need-returns
-returns c = is-refused (c .before .before .before .before .before .open-stream .ensures) (c .before .before .answer .given .1) (c .refuse .ensures)
+returns c = is-refused (c .before .before .before .before .open-stream .ensures) (c .before .before .answer .given .1) (c .refuse .ensures)
 
 -- src/lib.rt:112:1
 returns-2 : tie.Need-returns-2
-returns-2 c = is-ready (c .before .before .before .before .before .open-stream .ensures) (c .before .before .enum-told .given .1) (c .lay .ensures .0) (c .lay .ensures .1)
+returns-2 c = is-ready (c .before .before .before .before .before .open-stream .ensures) (c .before .before .before .enum-told .given .1) (c .lay .ensures .0) (c .lay .ensures .1)
 
 pub open-spec : {M : Type 1} → statement M
 open-spec =
