@@ -27,7 +27,7 @@ use Rattle.record.specs.Names.{numberIn, classRow, sizesOf, typeNameIn, baseTyp
 use Rattle.record.proofs.Read.{class-row}
 use Rattle.rows.specs.Layout.{Laid, rowsAt, cell, optionsIn, headerIn, viewIn}
 use Rattle.rows.proofs.Laws.{rows-at}
-use Rattle.listed.proofs.Laws.{classes-are}
+use Rattle.rows.proofs.Classes.{classes-are}
 use Rattle.sig_leaves.specs.declared.Owner.the-variants.{Of, Nobody}
 use Rattle.signatures.specs.Environment.{envIn}
 use Rattle.keys.specs.Keyed.{OnlyIn}
@@ -180,7 +180,7 @@ module _ {t l : List ℕ} (laid : Laid t l) (strings blob : List ℕ) (r : ℕ) 
   extended h =
       let c : r - 2 + 1 ≡ r - 1 = omega arith in
       ap (λ (x : Option (List ℕ)). orDefault 0 (over (extends (sizesOf v)) x))
-      (class-row (optionsIn l) t strings blob (r - 2) (omega (arith, classes-are laid strings blob)))
+      (class-row (optionsIn l) t strings blob (r - 2) (omega (arith, classes-are laid strings blob 3 (omega arith) refl)))
       ∙ ap (cell t l 5) c
 
   implemented : present (map (typeNameIn v (r - 2)) (v .interfaces r)) ≡ present (tabulate named 1 (rowsAt l 12))

@@ -22,6 +22,7 @@ use Rattle.record.specs.Answers.{_⟫_, orNoRow, item, theClass, theMethod, met
 use Rattle.record.proofs.Laws.{class-at, class-none}
 use Rattle.rows.specs.Layout.{Laid, rowsAt, viewIn}
 use Rattle.rows.proofs.Laws.{rows-at, rows-narrow}
+use Rattle.rows.proofs.Classes.{classes-are}
 use Rattle.methods.specs.Ranges.{RangeOf}
 use Rattle.listed.specs.Listed.{ClassRowIs, at-row, no-row, MethodRowIs, at-method, no-method}
 use Rattle.listed.specs.declared.ClassRow.{ClassRow}
@@ -66,17 +67,13 @@ module _ {t l : List ℕ} (laid : Laid t l) (strings blob : List ℕ) where
   abbrev v : View
   v = viewIn t l strings blob
 
-  pub classes-are : classes v ≡ rowsAt l 3 - 1
-  unfolding classes viewOf
-  classes-are = ap (λ (n : ℕ). n - 1) (sym (rows-at laid 3 (omega arith)))
-
   pub listed : (c : ℕ) → c + 2 ≤ rowsAt l 3 → theClass v c ≡ value (class v c)
   unfolding viewOf
-  listed c h = class-at v c (laid .ready) (omega (arith, classes-are))
+  listed c h = class-at v c (laid .ready) (omega (arith, classes-are laid strings blob 3 (omega arith) refl))
 
   pub unlisted : (c : ℕ) → rowsAt l 3 < c + 2 → theClass v c ≡ refused (number NoSuchRow)
   unfolding viewOf
-  unlisted c h = class-none v c (laid .ready) (omega (arith, classes-are))
+  unlisted c h = class-none v c (laid .ready) (omega (arith, classes-are laid strings blob 3 (omega arith) refl))
 
   -- MethodDef has no more rows than 32 bits can say.
   pub methods-narrow : rowsIn v methodDef < 4_294_967_296

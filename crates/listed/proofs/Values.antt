@@ -1,6 +1,6 @@
 -- What a call answers of a class or a method that is listed: the values of its row, and the rows of the side tables that are its own.
 -- Assumes nothing.
-use mathlib.Core.Path.{_≡_, sym, ap, _∙_}
+use mathlib.Core.Path.{_≡_, refl, sym, ap, _∙_}
 use mathlib.Core.List.{List}
 use mathlib.Core.Option.{Option}
 use Prim.Native.Nat.{ℕ, _+_, _-_, _*_, _≤_, _<_}
@@ -26,12 +26,13 @@ use Rattle.record.proofs.Laws.{record-length}
 use Rattle.record.proofs.Read.{class-row, method-row}
 use Rattle.rows.specs.Layout.{Laid, rowsAt, cell, optionsIn, headerIn, viewIn}
 use Rattle.rows.proofs.Laws.{rows-at}
+use Rattle.rows.proofs.Classes.{classes-are}
 use Rattle.methods.specs.Ranges.{RangeOf}
 use Rattle.keys.specs.Keyed.{FoundIs}
 use Rattle.keys.specs.declared.Row.{Row}
 use Rattle.keys.specs.declared.Row.the-variants.{At, NoRow}
 use Rattle.keys.proofs.Laws.{generics-found, generics-missed}
-use Rattle.listed.proofs.Laws.{classes-are, listed, unlisted, range-of, methods-counted}
+use Rattle.listed.proofs.Laws.{listed, unlisted, range-of, methods-counted}
 
 -- What is asked of a class or a method by way of its place: the value, or the refusal that stands.
 through : {A B : Type 0} {a : Answer A} (f : A → Answer B) {x : A} → a ≡ value x → (a ⟫ f) ≡ f x
@@ -50,7 +51,7 @@ module _ {t l : List ℕ} (laid : Laid t l) (strings blob : List ℕ) where
   pub class-counted : {n : ℕ} → n ≡ rowsAt l 3 - 1 → Numbered (classCount v) (Is n)
   unfolding classCount viewOf
   class-counted e =
-      ap value (e ∙ sym (record-length v ∙ classes-are laid strings blob))
+      ap value (e ∙ sym (record-length v ∙ classes-are laid strings blob 3 (omega arith) refl))
       ∙ sym (ap (λ a. ready a ⟫ (λ _. value (classRecord v)) ⟫ (λ l. value (length l))) (laid .ready))
 
   -- A class that is listed, with its row.
@@ -65,7 +66,7 @@ module _ {t l : List ℕ} (laid : Laid t l) (strings blob : List ℕ) where
         ap value (e ∙ ap (cell t l 2) i)
         ∙ sym (through (λ k. value (k .flags)) is
         ∙ ap (λ (r : Option (List ℕ)). value (orDefault 0 (over (columns.typeFlags (sizesOf v)) r)))
-        (class-row (optionsIn l) t strings blob c (omega (arith, classes-are laid strings blob, at .1))))
+        (class-row (optionsIn l) t strings blob c (omega (arith, classes-are laid strings blob 3 (omega arith) refl, at .1))))
 
     pub class-name : {b b′ : List ℕ} {r : Reply} → Named (nameOr5 (classFullName v (row .0))) b r b′ → Named (className v c) b r b′
     unfolding className class

@@ -30,9 +30,10 @@ use Rattle.record.specs.View.{View, viewOf}
 use Rattle.record.specs.Types.{Env, methodStart, type}
 use Rattle.record.specs.Names.{rowsIn, sizesOf, numberIn, classes, classRow, env, levels, classGenerics, methodGenerics}
 use Rattle.record.specs.Methods.{Signature, Pass, tries, signature, readBy, methodLists, handle, pass, signatureOf}
-use Rattle.record.proofs.Read.{class-row, method-row}
+use Rattle.record.proofs.Read.{method-row}
 use Rattle.rows.specs.Layout.{Laid, Ascends, rowsAt, cell, optionsIn, viewIn}
 use Rattle.rows.proofs.Laws.{rows-at}
+use Rattle.rows.proofs.Classes.{classes-are, list-at}
 use Rattle.keys.specs.Keyed.{SplitAt}
 use Rattle.rendering.specs.Rendered.{Rendered}
 use Rattle.rendering.specs.declared.Rendering.{Rendering}
@@ -293,14 +294,6 @@ module _ (v : View) (m : ℕ) where
 
 -- The columns that the scan reads.
 module _ {t l : List ℕ} (laid : Laid t l) (strings heap : List ℕ) where
-  pub class-rows : classes (viewIn t l strings heap) ≡ rowsAt l 6 - 1
-  unfolding classes viewOf
-  class-rows = ap (λ (n : ℕ). n - 1) (sym (rows-at laid 6 (omega arith)))
-
-  pub method-rows : rowsIn (viewIn t l strings heap) methodDef ≡ rowsAt l 9
-  unfolding viewOf
-  method-rows = sym (rows-at laid 9 (omega arith))
-
   -- A turn of the scan, at a row of TypeDef from 0: the class there has the number before it.
   module _ (m : ℕ) {row : ℕ} (z : 0 < row) (h : row < rowsAt l 6) {col : ℕ} (read : col ≡ cell t l 6 row) (c first : ℕ)
       (inv : Standing (viewIn t l strings heap) m (row - 1) c first) where
@@ -308,13 +301,12 @@ module _ {t l : List ℕ} (laid : Laid t l) (strings heap : List ℕ) where
     w = viewIn t l strings heap
 
     is-class : row - 1 < classes w
-    is-class = omega (arith, class-rows)
+    is-class = omega (arith, classes-are laid strings heap 6 (omega arith) refl)
 
     its-list : col ≡ numberIn w methodList (classRow w (row - 1))
-    unfolding viewOf
     its-list =
-        let one : row - 1 + 1 ≡ row = omega arith in
-        read ∙ ap (cell t l 6) (sym one) ∙ sym (ap (numberIn w methodList) (class-row (optionsIn l) t strings heap (row - 1) is-class))
+        let one : row ≡ row - 1 + 1 = omega arith in
+        read ∙ ap (cell t l 6) one ∙ sym (list-at laid strings heap (row - 1) is-class)
 
     next-row : row - 1 + 1 ≡ row + 1 - 1
     next-row = omega arith
@@ -332,16 +324,14 @@ module _ {t l : List ℕ} (laid : Laid t l) (strings heap : List ℕ) where
         subst (λ (i : ℕ). Standing w m i (row + 1 - 2) (col - 1)) next-row (subst (λ (k : ℕ). Standing w m (row - 1 + 1) k (col - 1)) e next)
 
   -- Where MethodList ascends: of the rows that begin at or below m the last is that of a class before which none has a say.
-  module _ (up : Ascends (cell t l 6) (rowsAt l 6)) (m : ℕ) where
-    column-of : (c : ℕ) → c < rowsAt l 6 - 1 → cell t l 6 (c + 1) ≡ numberIn (viewIn t l strings heap) methodList (classRow (viewIn t l strings heap) c)
-    unfolding viewOf
-    column-of c h =
-        sym (ap (numberIn (viewIn t l strings heap) methodList) (class-row (optionsIn l) t strings heap c (omega (arith, class-rows))))
-
-    pub from-begun : {n : ℕ} → SplitAt (cell t l 6) (m + 2) (rowsAt l 6) n → (c : ℕ) → c + 2 ≤ n → ReadFrom (viewIn t l strings heap) m c
-    from-begun s zero h = from-all (viewIn t l strings heap) m
-    from-begun s (suc c) h =
-        let one : suc c ≡ c + 1 = omega arith in
-        let next = from-next (viewIn t l strings heap) m c (omega (arith, class-rows, s .within)) (column-of c (omega (arith, s .within)))
-        (column-of (c + 1) (omega (arith, s .within))) (up (c + 1) (omega (arith, s .within))) (s .below (c + 1 + 1) (omega arith)) (from-begun s c (omega arith)) in
-        subst (ReadFrom (viewIn t l strings heap) m) (sym one) next
+  pub from-begun : Ascends (cell t l 6) (rowsAt l 6) → (m : ℕ) {n : ℕ} → SplitAt (cell t l 6) (m + 2) (rowsAt l 6) n → (c : ℕ) → c + 2 ≤ n
+      → ReadFrom (viewIn t l strings heap) m c
+  from-begun up m s zero h = from-all (viewIn t l strings heap) m
+  from-begun up m s (suc c) h =
+      let one : suc c ≡ c + 1 = omega arith in
+      let all = classes-are laid strings heap 6 (omega arith) refl in
+      let here = list-at laid strings heap c (omega (arith, s .within)) in
+      let next = list-at laid strings heap (c + 1) (omega (arith, s .within)) in
+      let from = from-next (viewIn t l strings heap) m c (omega (arith, s .within)) (sym here) (sym next) (up (c + 1) (omega (arith, s .within)))
+      (s .below (c + 1 + 1) (omega arith)) (from-begun up m s c (omega arith)) in
+      subst (ReadFrom (viewIn t l strings heap) m) (sym one) from

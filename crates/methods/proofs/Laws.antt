@@ -12,9 +12,10 @@ use Rattle.record.specs.Columns.{methodList}
 use Rattle.record.specs.View.{View, viewOf}
 use Rattle.record.specs.Names.{rowsIn, numberIn, classes, classRow}
 use Rattle.record.specs.Methods.{methodLists, takes, leftOver, leftAfter}
-use Rattle.record.proofs.Read.{class-row, left-le}
+use Rattle.record.proofs.Read.{left-le}
 use Rattle.rows.specs.Layout.{Laid, Ascends, rowsAt, cell, optionsIn, viewIn}
-use Rattle.rows.proofs.Laws.{rows-at, le-or-lt}
+use Rattle.rows.proofs.Laws.{le-or-lt}
+use Rattle.rows.proofs.Classes.{classes-are, methods-are, list-at}
 use Rattle.methods.specs.Ranges.{RangeOf}
 
 -- ---- What a class takes
@@ -76,33 +77,20 @@ module _ {t l : List ℕ} (laid : Laid t l) (strings blob : List ℕ) where
   abbrev v : View
   v = viewIn t l strings blob
 
-  class-count : classes v ≡ rowsAt l 6 - 1
-  unfolding classes viewOf
-  class-count = ap (λ n. n - 1) (sym (rows-at laid 6 (omega arith)))
-
-  method-count : rowsIn v methodDef ≡ rowsAt l 8
-  unfolding viewOf
-  method-count = sym (rows-at laid 8 (omega arith))
-
-  -- The column of class c stands in the row after the class's number.
-  column-read : (c : ℕ) → c < classes v → numberIn v methodList (classRow v c) ≡ cell t l 6 (c + 1)
-  unfolding viewOf
-  column-read c h = ap (numberIn v methodList) (class-row (optionsIn l) t strings blob c h)
-
   -- At the start no class has taken any.
   pub all-left : {r left : ℕ} → 0 < r → r ≡ rowsAt l 6 → left ≡ rowsAt l 8 → left ≡ leftAfter v (r - 1)
   unfolding leftAfter
   all-left {r} z e a =
-      let k = class-count in
-      a ∙ sym (left-none v (r - 1) (classes v - (r - 1)) (omega arith) ∙ method-count)
+      let k = classes-are laid strings blob 6 (omega arith) refl in
+      a ∙ sym (left-none v (r - 1) (classes v - (r - 1)) (omega arith) ∙ methods-are laid strings blob 8 (omega arith) refl)
 
   -- The class at row r takes its methods.
   pub class-takes : (r : ℕ) {x left next : ℕ} → 1 < r → r ≤ rowsAt l 6 → x ≡ cell t l 6 (r - 1) → left ≡ leftAfter v (r - 1) → next ≡ takes x left
       → next ≡ leftAfter v (r - 1 - 1)
   class-takes r z h read a n =
-      let k = class-count in
+      let k = classes-are laid strings blob 6 (omega arith) refl in
       let one : r - 1 - 1 + 1 ≡ r - 1 = omega arith in
-      let c = column-read (r - 1 - 1) (omega arith) in
+      let c = list-at laid strings blob (r - 1 - 1) (omega arith) in
       let s = left-step v (r - 1 - 1) (omega arith) in
       n ∙ ap₂ takes (read ∙ ap (cell t l 6) (sym one) ∙ sym c) (a ∙ ap (leftAfter v) (sym one)) ∙ sym s
 
@@ -120,14 +108,14 @@ module _ {t l : List ℕ} (laid : Laid t l) (strings blob : List ℕ) where
   -- Where MethodList ascends, what the classes from c on leave is decided by class c alone, unless its column is 0.
   none-after : (c : ℕ) → classes v ≤ c → leftAfter v c ≡ rowsAt l 8
   unfolding leftAfter
-  none-after c h = left-none v c (classes v - c) (omega arith) ∙ method-count
+  none-after c h = left-none v c (classes v - c) (omega arith) ∙ methods-are laid strings blob 8 (omega arith) refl
 
   decides : Ascends (cell t l 6) (rowsAt l 6) → (d c : ℕ) → classes v ≡ c + suc d → (cell t l 6 (c + 1) ≡ 0 → ⊥)
       → leftAfter v c ≡ takes (cell t l 6 (c + 1)) (rowsAt l 8)
-  decides up zero c e n = left-step v c (omega arith) ∙ ap₂ takes (column-read c (omega arith)) (none-after (c + 1) (omega arith))
+  decides up zero c e n = left-step v c (omega arith) ∙ ap₂ takes (list-at laid strings blob c (omega arith)) (none-after (c + 1) (omega arith))
   decides up (suc d) c e n =
-      let next = up (c + 1) (omega (arith, class-count)) in
-      left-step v c (omega arith) ∙ ap₂ takes (column-read c (omega arith)) (decides up d (c + 1) (omega arith) (λ z. n (omega arith)))
+      let next = up (c + 1) (omega (arith, classes-are laid strings blob 6 (omega arith) refl)) in
+      left-step v c (omega arith) ∙ ap₂ takes (list-at laid strings blob c (omega arith)) (decides up d (c + 1) (omega arith) (λ z. n (omega arith)))
       ∙ takes-twice _ _ _ n next
 
   pub next-decides : Ascends (cell t l 6) (rowsAt l 6) → (row : ℕ) {x all left : ℕ} → 0 < row → row < rowsAt l 6
@@ -135,4 +123,4 @@ module _ {t l : List ℕ} (laid : Laid t l) (strings blob : List ℕ) where
   next-decides up row {x} z h read n a e =
       let one : row - 1 + 1 ≡ row = omega arith in
       let same : cell t l 6 (row - 1 + 1) ≡ x = ap (cell t l 6) one ∙ sym read in
-      e ∙ ap₂ takes (sym same) a ∙ sym (decides up (classes v - row) (row - 1) (omega (arith, class-count)) (λ q. n (sym same ∙ q)))
+      e ∙ ap₂ takes (sym same) a ∙ sym (decides up (classes v - row) (row - 1) (omega (arith, classes-are laid strings blob 6 (omega arith) refl)) (λ q. n (sym same ∙ q)))

@@ -6,8 +6,9 @@ use lib.ListN.{length}
 use Rattle.record.specs.Names.{classes}
 use Rattle.rows.specs.Layout.{viewIn}
 use Rattle.rows.proofs.Laws.{rows-narrow}
+use Rattle.rows.proofs.Classes.{classes-are, methods-are}
 use Rattle.method_signatures.specs.Signatures.{readWithin}
-use Rattle.method_signatures.proofs.Laws.{Standing, stand-from, stand-end, class-rows, method-rows, turn-skip, turn-read, turn-next, reading-length, reading-as, reading-missed, reading-stands, within-none, within-has}
+use Rattle.method_signatures.proofs.Laws.{Standing, stand-from, stand-end, turn-skip, turn-read, turn-next, reading-length, reading-as, reading-missed, reading-stands, within-none, within-has}
 use Rattle.method_signatures.proofs.read_signature.Statement.{statement}
 use Rattle.method_signatures.proofs.read_signature.Tie as tie
 use Rattle.method_signatures.proofs.read_signature.Reads as reads
@@ -192,8 +193,8 @@ returns-2 c =
     let h = at-loop .loop in
     let a = start .args in
     let v = viewIn (a .tables .now) (a .layout .now) (a .strings .now) (a .blob .now) in
-    let past : classes v ≤ h .row - 1 = omega (arith, at-loop-test .loop-test .left, at-count-rows .count-rows .ensures, class-rows (start .pre .0) (a .strings .now) (a .blob .now)) in
-    let all = method-rows (start .pre .0) (a .strings .now) (a .blob .now) ∙ sym (at-count-rows2 .count-rows2 .ensures) in
+    let past : classes v ≤ h .row - 1 = omega (arith, at-loop-test .loop-test .left, at-count-rows .count-rows .ensures, classes-are (start .pre .0) (a .strings .now) (a .blob .now) 6 (omega arith) refl) in
+    let all = methods-are (start .pre .0) (a .strings .now) (a .blob .now) 9 (omega arith) refl ∙ sym (at-count-rows2 .count-rows2 .ensures) in
     reading-length (h .inv .2) (reading-as (stand-end v (a .m) _ _ _ past (h .inv .3) ∙ ap (readWithin v (a .m) (h .class) (h .first)) all) (at-read-within .read-within .ensures))
 
 pub read-signature-spec : {M : Type 1} → statement M
