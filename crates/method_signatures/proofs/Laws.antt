@@ -9,7 +9,7 @@ use mathlib.Core.Logic.{⊎-elim}
 use native.Mathlib.Nat.{sub-zero, eq-zero-or-pos}
 use native.Mathlib.Omega.{arith}
 use borrow.Author.Tests.{eq-eqb, ne-eqb, le-leb, lt-leb, lt-ltb, le-ltb}
-use lib.Dec.{eqb, leb, ltb}
+use lib.Dec.{eqb, leb, ltb, leb→le}
 use lib.ListN.{length, getElem?}
 use Rattle.numbers.specs.Lists.{tabulate}
 use Rattle.numbers.specs.Reading.{Reader, someAt, noneAt}
@@ -33,7 +33,7 @@ use Rattle.record.specs.Methods.{Signature, Pass, tries, signature, readBy, met
 use Rattle.record.proofs.Read.{method-row}
 use Rattle.rows.specs.Layout.{Laid, Ascends, rowsAt, cell, optionsIn, viewIn}
 use Rattle.rows.proofs.Laws.{rows-at}
-use Rattle.rows.proofs.Classes.{classes-are, list-at}
+use Rattle.rows.proofs.Classes.{classes-are, methods-are, list-at}
 use Rattle.keys.specs.Keyed.{SplitAt}
 use Rattle.rendering.specs.Rendered.{Rendered}
 use Rattle.rendering.specs.declared.Rendering.{Rendering}
@@ -42,7 +42,9 @@ use Rattle.rendering.proofs.Laws.{rendered-done, rendered-failed}
 use Rattle.sig_leaves.specs.declared.Owner.the-variants.{Of}
 use Rattle.sig_leaves.proofs.Specs.{blob-some, blob-absent}
 use Rattle.signatures.specs.Environment.{envIn}
-use Rattle.method_signatures.specs.Signatures.{typesFrom, behind, readWithin, ReadFrom, ReadingIs, read, missing}
+use Rattle.method_signatures.specs.Signatures.{typesFrom, behind, readFrom, ReadFrom, ReaderIs, ReadingIs, read, missing}
+use Rattle.method_signatures.specs.declared.ClassReader.{ClassReader}
+use Rattle.method_signatures.specs.declared.ClassReader.the-variants.{By, Nobody}
 use Rattle.method_signatures.specs.declared.Reading.{Reading}
 use Rattle.method_signatures.specs.declared.Reading.the-variants.{Read, Missing}
 
@@ -181,18 +183,26 @@ module _ {v : View} {heap : List ℕ} {m : ℕ} {d : Option Signature} {b b′ :
 
 -- ---- Within a class's methods
 
+-- What class c makes of method m's signature if it reads the methods from its first up to an end.
+unfoldable pub readWithin : View → ℕ → ℕ → ℕ → ℕ → Option Signature
+readWithin v m c first end = cond (leb first m && ltb m end) (readBy v m c) none
+
 module _ (v : View) (m c first end : ℕ) where
   within-before : m < first → readWithin v m c first end ≡ none
   unfolding readWithin
   within-before h = rw (lt-leb first m h)
 
+  within-inside : first ≤ m → m < end → readWithin v m c first end ≡ readBy v m c
+  unfolding readWithin
+  within-inside h k = rw (le-leb first m h, lt-ltb m end k)
+
   -- By what the code tests.
   module _ {b : Bool} (e : b ≡ (leb first m && ltb m end)) where
-    pub within-none : b ≡ false → readWithin v m c first end ≡ none
+    within-none : b ≡ false → readWithin v m c first end ≡ none
     unfolding readWithin
     within-none f = rw (sym e ∙ f)
 
-    pub within-has : b ≡ true → readWithin v m c first end ≡ readBy v m c
+    within-has : b ≡ true → readWithin v m c first end ≡ readBy v m c
     unfolding readWithin
     within-has f = rw (sym e ∙ f)
 
@@ -202,9 +212,9 @@ or-either : {A : Type 0} (t : Bool) (a b : Option A) → cond t (orElse a b) b �
 or-either true a b = refl
 or-either false a b = refl
 
-or-none : {A : Type 0} (a : Option A) → orElse a none ≡ a
-or-none none = refl
-or-none (some x) = refl
+and-true : (a b : Bool) → (a && b) ≡ true → a ≡ true
+and-true true b e = refl
+and-true false b e = e
 
 not-read : (b c : Bool) (p : Pass) (e : ℕ) (r : Option Signature) → cond b p (record { end = e; read = cond (c && false) r (p .read) }) .read ≡ p .read
 not-read true c p e r = refl
@@ -216,16 +226,17 @@ module _ (v : View) (m : ℕ) where
   abbrev later : ℕ → Pass
   later c = pass v m c (methodLists v c (classes v - c))
 
-  -- The signature is that of the class in hand, which has the methods from first on, or else what the classes from i on make of it.
-  abbrev pub Standing : ℕ → ℕ → ℕ → Type 0
-  Standing i c first = signatureOf v m ≡ orElse (readWithin v m c first (later i .end)) (later i .read)
+  -- What s says is what the class in hand makes of it, which has the methods from first on, or else what the classes from i on do.
+  abbrev pub Standing : Option Signature → ℕ → ℕ → ℕ → Type 0
+  Standing s i c first = s ≡ orElse (readWithin v m c first (later i .end)) (later i .read)
 
   pub from-all : ReadFrom v m 0
-  unfolding signatureOf
-  from-all = rw (sub-zero (classes v))
+  unfolding signatureOf readFrom
+  from-all = ap (λ (n : ℕ). pass v m 0 (methodLists v 0 n) .read) (sym (sub-zero (classes v)))
 
-  pub stand-from : (i : ℕ) → ReadFrom v m i → Standing i 0 (m + 1)
-  stand-from i h = rw (within-before v m 0 (m + 1) (later i .end) (omega arith)) h
+  pub stand-from : (i : ℕ) → Standing (readFrom v m i) i 0 (m + 1)
+  unfolding readFrom
+  stand-from i = rw (within-before v m 0 (m + 1) (later i .end) (omega arith))
 
   later-end : (i n : ℕ) → n ≡ 0 → pass v m i (methodLists v i n) ≡ record { end = rowsIn v methodDef; read = none }
   unfolding pass tabulate
@@ -260,26 +271,29 @@ module _ (v : View) (m : ℕ) where
         ap (λ (p : Pass). p .read) later-step
         ∙ rw (le-ltb m (later (i + 1) .end) e) (not-read (eqb col 0) (leb (col - 1) m) (later (i + 1)) (col - 1) _)
 
-    module _ (c first : ℕ) (inv : Standing i c first) where
-      pub stand-skip : col ≡ 0 → Standing (i + 1) c first
+    module _ (s : Option Signature) (c first : ℕ) (inv : Standing s i c first) where
+      pub stand-skip : col ≡ 0 → Standing s (i + 1) c first
       stand-skip z = rw (later-skip z) at inv
 
-      module _ (z : col ≡ 0 → ⊥) where
-        met : signatureOf v m ≡ orElse (readWithin v m c first (col - 1)) (later i .read)
+      module _ (z : col ≡ 0 → ⊥) {b : Bool} (has : b ≡ (leb first m && ltb m (col - 1))) where
+        met : s ≡ orElse (readWithin v m c first (col - 1)) (later i .read)
         met = inv ∙ ap (λ (p : Pass). orElse (readWithin v m c first (p .end)) (later i .read)) (later-handle z)
 
-        pub stand-read : (s : Signature) → readWithin v m c first (col - 1) ≡ some s → signatureOf v m ≡ some s
-        stand-read s r = met ∙ rw r
+        pub stand-read : b ≡ true → s ≡ orElse (readBy v m c) (readFrom v m i)
+        unfolding readFrom
+        stand-read e = met ∙ ap (λ (o : Option Signature). orElse o (later i .read)) (within-has v m c first (col - 1) has e)
 
-        pub stand-next : readWithin v m c first (col - 1) ≡ none → Standing (i + 1) i (col - 1)
+        pub stand-next : b ≡ false → Standing s (i + 1) i (col - 1)
         unfolding readWithin
-        stand-next r =
-            met ∙ ap (λ (o : Option Signature). orElse o (later i .read)) r ∙ ap (λ (p : Pass). p .read) (later-handle z)
+        stand-next e =
+            met ∙ ap (λ (o : Option Signature). orElse o (later i .read)) (within-none v m c first (col - 1) has e)
+            ∙ ap (λ (p : Pass). p .read) (later-handle z)
             ∙ or-either (leb (col - 1) m && ltb m (later (i + 1) .end)) (readBy v m i) (later (i + 1) .read)
 
   -- A class has no say if the next one begins at or below m, or if neither begins.
   from-next : (i : ℕ) → i + 1 < classes v → {x y : ℕ} → x ≡ numberIn v methodList (classRow v i) → y ≡ numberIn v methodList (classRow v (i + 1))
       → x ≤ y → y < m + 2 → ReadFrom v m i → ReadFrom v m (i + 1)
+  unfolding readFrom
   from-next i h {x} {y} ex ey up lo from =
       ⊎-elim (λ z. from ∙ ap (λ (p : Pass). p .read) (later-skip i (omega arith) ex (omega arith)))
       (λ z.
@@ -287,16 +301,32 @@ module _ (v : View) (m : ℕ) where
       from ∙ passed-over i (omega arith) ex (omega arith))
       (eq-zero-or-pos y)
 
-  pub stand-end : (i c first : ℕ) → classes v ≤ i → Standing i c first → signatureOf v m ≡ readWithin v m c first (rowsIn v methodDef)
-  stand-end i c first h inv =
-      let e = later-end i (classes v - i) (omega arith) in
-      inv ∙ ap (λ (p : Pass). orElse (readWithin v m c first (p .end)) (p .read)) e ∙ or-none (readWithin v m c first (rowsIn v methodDef))
+  -- Behind the last class.
+  module _ (i : ℕ) (h : classes v ≤ i) where
+    last : later i ≡ record { end = rowsIn v methodDef; read = none }
+    last = later-end i (classes v - i) (omega arith)
+
+    pub from-none : readFrom v m i ≡ none
+    unfolding readFrom
+    from-none = ap (λ (p : Pass). p .read) last
+
+    module _ (s : Option Signature) (c first : ℕ) (inv : Standing s i c first) where
+      pub end-read : first ≤ m → m < rowsIn v methodDef → s ≡ orElse (readBy v m c) (readFrom v m i)
+      unfolding readFrom
+      end-read lo hi =
+          let all : later i .end ≡ rowsIn v methodDef = ap (λ (p : Pass). p .end) last in
+          inv ∙ ap (λ (o : Option Signature). orElse o (later i .read)) (within-inside v m c first (later i .end) lo (omega arith))
+
+      pub end-none : m < first → s ≡ none
+      end-none hi =
+          inv ∙ ap (λ (o : Option Signature). orElse o (later i .read)) (within-before v m c first (later i .end) hi)
+          ∙ ap (λ (p : Pass). p .read) last
 
 -- The columns that the scan reads.
 module _ {t l : List ℕ} (laid : Laid t l) (strings heap : List ℕ) where
   -- A turn of the scan, at a row of TypeDef from 0: the class there has the number before it.
-  module _ (m : ℕ) {row : ℕ} (z : 0 < row) (h : row < rowsAt l 6) {col : ℕ} (read : col ≡ cell t l 6 row) (c first : ℕ)
-      (inv : Standing (viewIn t l strings heap) m (row - 1) c first) where
+  module _ (m : ℕ) {row : ℕ} (z : 0 < row) (h : row < rowsAt l 6) {col : ℕ} (read : col ≡ cell t l 6 row) (s : Option Signature) (c first : ℕ)
+      (inv : Standing (viewIn t l strings heap) m s (row - 1) c first) where
     abbrev w : View
     w = viewIn t l strings heap
 
@@ -311,17 +341,20 @@ module _ {t l : List ℕ} (laid : Laid t l) (strings heap : List ℕ) where
     next-row : row - 1 + 1 ≡ row + 1 - 1
     next-row = omega arith
 
-    pub turn-skip : col ≡ 0 → Standing w m (row + 1 - 1) c first
-    turn-skip e = subst (λ (i : ℕ). Standing w m i c first) next-row (stand-skip w m (row - 1) is-class its-list c first inv e)
+    pub turn-skip : col ≡ 0 → Standing w m s (row + 1 - 1) c first
+    turn-skip e = subst (λ (i : ℕ). Standing w m s i c first) next-row (stand-skip w m (row - 1) is-class its-list s c first inv e)
 
-    pub turn-read : (col ≡ 0 → ⊥) → (s : Signature) → readWithin w m c first (col - 1) ≡ some s → signatureOf w m ≡ some s
-    turn-read n = stand-read w m (row - 1) is-class its-list c first inv n
+    module _ (n : col ≡ 0 → ⊥) {b : Bool} (has : b ≡ (leb first m && ltb m (col - 1))) where
+      pub turn-read : b ≡ true → s ≡ orElse (readBy w m c) (readFrom w m (row + 1 - 2))
+      turn-read e =
+          let one : row - 1 ≡ row + 1 - 2 = omega arith in
+          stand-read w m (row - 1) is-class its-list s c first inv n has e ∙ ap (λ (i : ℕ). orElse (readBy w m c) (readFrom w m i)) one
 
-    pub turn-next : (col ≡ 0 → ⊥) → readWithin w m c first (col - 1) ≡ none → Standing w m (row + 1 - 1) (row + 1 - 2) (col - 1)
-    turn-next n r =
-        let e : row - 1 ≡ row + 1 - 2 = omega arith in
-        let next = stand-next w m (row - 1) is-class its-list c first inv n r in
-        subst (λ (i : ℕ). Standing w m i (row + 1 - 2) (col - 1)) next-row (subst (λ (k : ℕ). Standing w m (row - 1 + 1) k (col - 1)) e next)
+      pub turn-next : b ≡ false → Standing w m s (row + 1 - 1) (row + 1 - 2) (col - 1)
+      turn-next e =
+          let one : row - 1 ≡ row + 1 - 2 = omega arith in
+          let next = stand-next w m (row - 1) is-class its-list s c first inv n has e in
+          subst (λ (i : ℕ). Standing w m s i (row + 1 - 2) (col - 1)) next-row (subst (λ (k : ℕ). Standing w m s (row - 1 + 1) k (col - 1)) one next)
 
   -- Where MethodList ascends: of the rows that begin at or below m the last is that of a class before which none has a say.
   pub from-begun : Ascends (cell t l 6) (rowsAt l 6) → (m : ℕ) {n : ℕ} → SplitAt (cell t l 6) (m + 2) (rowsAt l 6) n → (c : ℕ) → c + 2 ≤ n
@@ -335,3 +368,40 @@ module _ {t l : List ℕ} (laid : Laid t l) (strings heap : List ℕ) where
       let from = from-next (viewIn t l strings heap) m c (omega (arith, s .within)) (sym here) (sym next) (up (c + 1) (omega (arith, s .within)))
       (s .below (c + 1 + 1) (omega arith)) (from-begun up m s c (omega arith)) in
       subst (ReadFrom (viewIn t l strings heap) m) (sym one) from
+
+  -- What the scan from a class on answers.
+  module _ (m from class first row : ℕ)
+      (inv : Standing (viewIn t l strings heap) m (readFrom (viewIn t l strings heap) m from) (row - 1) class first) where
+    abbrev u : View
+    u = viewIn t l strings heap
+
+    pub read-last : class < 4_294_967_296 → m < rowsAt l 9 → first ≤ m → from + 1 < row → row ≡ rowsAt l 6 → ReaderIs u m from (By class (row - 1))
+    read-last c h lo f e =
+        let all = classes-are laid strings heap 6 (omega arith) refl in
+        (c, omega arith, omega arith, end-read u m (row - 1) (omega arith) _ class first inv lo (omega (arith, methods-are laid strings heap 9 (omega arith) refl)))
+
+    pub read-nobody : m < first → rowsAt l 6 ≤ row → ReaderIs u m from Nobody
+    read-nobody hi e = end-none u m (row - 1) (omega (arith, classes-are laid strings heap 6 (omega arith) refl)) _ class first inv hi
+
+    module _ (c : class < 4_294_967_296) (f : first ≤ m → from + 1 < row) (h : row < rowsAt l 6) {col : ℕ} (read : col ≡ cell t l 6 row)
+        (n : col ≡ 0 → ⊥) {b : Bool} (has : b ≡ (leb first m && ltb m (col - 1))) where
+      pub read-met : b ≡ true → 0 < row → ReaderIs u m from (By class (row + 1 - 2))
+      read-met e z =
+          let lo : first ≤ m = leb→le first m (rw (and-true (leb first m) (ltb m (col - 1)) (sym has ∙ e)) tt) in
+          let after = f lo in (
+            c,
+            omega arith,
+            omega (arith, classes-are laid strings heap 6 (omega arith) refl),
+            turn-read m z h read _ class first inv n has e,
+          )
+
+pub reader-is : (v : View) (m c : ℕ) {r r′ : ClassReader} → ReaderIs v m c r → r ≡ r′ → ReaderIs v m c r′
+reader-is v m c h e = subst (ReaderIs v m c) e h
+
+-- A reading that fails leaves it to the classes behind.
+module _ (v : View) (m c reader next : ℕ) (from : ReadFrom v m c) (is : readFrom v m c ≡ orElse (readBy v m reader) (readFrom v m next)) where
+  pub reader-stands : (s : Signature) → readBy v m reader ≡ some s → signatureOf v m ≡ some s
+  reader-stands s e = from ∙ is ∙ rw e
+
+  pub reader-fails : readBy v m reader ≡ none → ReadFrom v m next
+  reader-fails e = from ∙ is ∙ rw e

@@ -1,20 +1,21 @@
 -- A method's signature (ECMA-335 II.23.2.1), read by a class as far as its return type. The types of its parameters are read on demand,
 -- from the position behind it.
 use mathlib.Core.Path.{_≡_}
-use mathlib.Core.Bool.{cond, _&&_}
 use mathlib.Core.List.{List, [], _∷_}
 use mathlib.Core.Option.{Option, none, some}
-use Prim.Native.Nat.{ℕ, zero, suc, _+_, _-_, _≤_}
-use lib.Dec.{leb, ltb}
+use Prim.Native.Nat.{ℕ, zero, suc, _+_, _-_, _≤_, _<_}
 use lib.ListN.{length}
 use Rattle.numbers.specs.Reading.{Reader}
 use Rattle.numbers.specs.Parts.{part}
 use Rattle.buffers.specs.Texts.{Text}
 use Rattle.buffers.specs.Writes.{Wrote}
+use Rattle.record.specs.Missing.{orElse}
 use Rattle.record.specs.View.{View}
 use Rattle.record.specs.Types.{type}
 use Rattle.record.specs.Names.{env, levels, classes, methodGenerics}
 use Rattle.record.specs.Methods.{Signature, readBy, methodLists, pass, signatureOf}
+use Rattle.method_signatures.specs.declared.ClassReader.{ClassReader}
+use Rattle.method_signatures.specs.declared.ClassReader.the-variants.{By, Nobody}
 use Rattle.method_signatures.specs.declared.Reading.{Reading}
 use Rattle.method_signatures.specs.declared.Reading.the-variants.{Read, Missing}
 
@@ -32,13 +33,17 @@ unfoldable pub behind : Reader Text → ℕ → List ℕ → ℕ → ℕ
 behind type zero s at = at
 behind type (suc n) s at = behind type n s (type s at .next)
 
--- What class c makes of method m's signature if it reads the methods from its first up to an end.
-unfoldable pub readWithin : View → ℕ → ℕ → ℕ → ℕ → Option Signature
-readWithin v m c first end = cond (leb first m && ltb m end) (readBy v m c) none
+-- What the pass over the classes from c on makes of method m's signature; and that it is the signature: no class before c has a say.
+unfoldable pub readFrom : View → ℕ → ℕ → Option Signature
+readFrom v m c = pass v m c (methodLists v c (classes v - c)) .read
 
--- The classes before c have no say in method m's signature: it is what the pass over the others makes of it.
 abbrev pub ReadFrom : View → ℕ → ℕ → Type 0
-ReadFrom v m c = signatureOf v m ≡ pass v m c (methodLists v c (classes v - c)) .read
+ReadFrom v m c = signatureOf v m ≡ readFrom v m c
+
+-- Of the classes from c on the first that reads method m; if it fails, what the classes from another one on make of it stands.
+abbrev pub ReaderIs : View → ℕ → ℕ → ClassReader → Type 0
+ReaderIs v m c (By reader next) = (reader < 4_294_967_296) × (c < next) × (next ≤ classes v) × (readFrom v m c ≡ orElse (readBy v m reader) (readFrom v m next))
+ReaderIs v m c Nobody = readFrom v m c ≡ none
 
 -- From the buffer b to b′, r is the reading d of method m's signature: the return type was written, and the parameters' types follow in
 -- that part of the blob heap, as that owner's class reads them; or there is no reading, and in the buffer may be anything.

@@ -24,7 +24,7 @@ ghost use Rattle.record.specs.Record.{method};
 ghost use Rattle.record.specs.Answers.{_⟫_, item};
 ghost use Rattle.rows.specs.Layout.{Laid, rowsAt, viewIn};
 ghost use Rattle.signatures.specs.Environment.{envIn};
-ghost use Rattle.method_signatures.specs.Signatures.{behind, readWithin, ReadFrom, ReadingIs};
+ghost use Rattle.method_signatures.specs.Signatures.{behind, ReadFrom, ReaderIs, ReadingIs};
 
 // A method's signature as a class reads it: the class as an owner of generic parameters, where in the blob heap the signature stands, the
 // position behind the return type, the number of parameters, and the place behind the return type's text in the buffer.
@@ -38,6 +38,12 @@ pub enum Reading {
         end: usize,
     },
     Missing,
+}
+
+// A class that reads a method, and the class from which on others may read it too.
+pub enum ClassReader {
+    By(usize, usize),
+    Nobody,
 }
 
 // Class c's reading of method m's signature, both from 0.
@@ -99,30 +105,8 @@ fn has_method(first: usize, end: usize, m: usize) -> bool
     first <= m && m < end
 }
 
-// Class c's reading if the methods from first up to an end, which it reads, have m.
-fn read_within(
-    buf: &mut [u8],
-    tables: &[u8],
-    strings: &[u8],
-    blob: &[u8],
-    layout: &Layout,
-    m: usize,
-    class: usize,
-    first: usize,
-    end: usize,
-) -> Reading
-    requires { ⌜ Laid (now tables) (now layout) ⌝ }
-    requires { ⌜ (m < rowsAt (now layout) 9) × (class < 4294967296) ⌝ }
-    ensures { λ r. ⌜ ReadingIs (viewIn (now (tables .entry)) (now (layout .entry)) (now (strings .entry)) (now (blob .entry))) (now (blob .entry)) m (readWithin (viewIn (now (tables .entry)) (now (layout .entry)) (now (strings .entry)) (now (blob .entry))) m class first end) (now (buf .entry)) (now (buf .exit)) r ⌝ }
-{
-    if has_method(first, end, m) {
-        return read_by(buf, tables, strings, blob, layout, m, class);
-    }
-    Reading::Missing
-}
-
-// A class before which none reads method m. Where MethodList is known to ascend, that is the last whose first method lies at or below m;
-// rows, of which the first is no class, are counted by their column, from 1.
+// A class before which none reads method m. Where MethodList is known to ascend, that is the last whose first method lies at or below m:
+// the last row whose column is at most m + 1. Class 0 is the second row.
 fn first_reader(tables: &[u8], layout: &Layout, m: usize) -> usize
     requires { ⌜ Laid (now tables) (now layout) ⌝ }
     requires { ⌜ m < rowsAt (now layout) 9 ⌝ }
@@ -137,8 +121,35 @@ fn first_reader(tables: &[u8], layout: &Layout, m: usize) -> usize
     0
 }
 
-// The signature of method m: of the classes that read it the lowest whose reading succeeds. A class reads from its first method up to that
-// of the next class whose MethodList column is not 0, so each is tried once that one is met.
+// The first class from one on that reads method m. A class reads from its first method up to that of the next class whose MethodList
+// column is not 0, so it is known to read m once that one is met.
+fn next_reader(tables: &[u8], layout: &Layout, m: usize, from: usize) -> ClassReader
+    requires { ⌜ Laid (now tables) (now layout) ⌝ }
+    requires { ⌜ (m < rowsAt (now layout) 9) × (from < 4294967296) ⌝ }
+    ensures { λ r. ⌜ ((strings blob : List ℕ) → ReaderIs (viewIn (now (tables .entry)) (now (layout .entry)) strings blob) m from r) ⌝ }
+{
+    let n = rows::count_rows(layout, columns::METHOD_LIST);
+    let mut class = 0;
+    let mut first = m + 1;
+    let mut row = from + 1;
+    while row < n {
+        let column = rows::read_column(tables, layout, columns::METHOD_LIST, row) as usize;
+        row += 1;
+        if column != 0 {
+            if has_method(first, column - 1, m) {
+                return ClassReader::By(class, row - 2);
+            }
+            class = row - 2;
+            first = column - 1;
+        }
+    }
+    if first <= m {
+        return ClassReader::By(class, row - 1);
+    }
+    ClassReader::Nobody
+}
+
+// The signature of method m: of the classes that read it the lowest whose reading succeeds.
 pub fn read_signature(
     buf: &mut [u8],
     tables: &[u8],
@@ -152,15 +163,11 @@ pub fn read_signature(
     ensures { λ r. ⌜ ReadingIs (viewIn (now (tables .entry)) (now (layout .entry)) (now (strings .entry)) (now (blob .entry))) (now (blob .entry)) m (signatureOf (viewIn (now (tables .entry)) (now (layout .entry)) (now (strings .entry)) (now (blob .entry))) m) (now (buf .entry)) (now (buf .exit)) r ⌝ }
 {
     let n = rows::count_rows(layout, columns::METHOD_LIST);
-    let mut class = 0;
-    let mut first = m + 1;
-    let mut row = first_reader(tables, layout, m) + 1;
-    while row < n {
-        let column = rows::read_column(tables, layout, columns::METHOD_LIST, row) as usize;
-        row += 1;
-        if column != 0 {
-            if has_method(first, column - 1, m) {
-                match read_by(buf, tables, strings, blob, layout, m, class) {
+    let mut class = first_reader(tables, layout, m);
+    while class < n {
+        match next_reader(tables, layout, m, class) {
+            ClassReader::By(reader, after) => {
+                match read_by(buf, tables, strings, blob, layout, m, reader) {
                     Reading::Read {
                         owner,
                         start,
@@ -179,18 +186,16 @@ pub fn read_signature(
                         };
                     }
                     Reading::Missing => {
-                        class = row - 2;
-                        first = column - 1;
+                        class = after;
                     }
                 }
-            } else {
-                class = row - 2;
-                first = column - 1;
+            }
+            ClassReader::Nobody => {
+                return Reading::Missing;
             }
         }
     }
-    let all = rows::count_rows(layout, columns::METHOD_SIGNATURE);
-    read_within(buf, tables, strings, blob, layout, m, class, first, all)
+    Reading::Missing
 }
 
 // Answer a call for the return type of method m.
