@@ -1,6 +1,6 @@
 -- What marking relies on: the turns of the pass over a column, and that a true mark leaves everything else as it is. Assumes nothing.
 use mathlib.Core.Path.{_≡_, refl, sym, ap, _∙_}
-use mathlib.Core.Bool.{Bool, true, false}
+use mathlib.Core.Bool.{true, false, true≢false}
 use mathlib.Core.List.{List}
 use mathlib.Core.Logic.{_≢_, _⊎_, inl, inr, ⊎-elim}
 use Prim.Native.Nat.{ℕ, zero, suc, _+_, _-_, _*_, _≤_, _<_}
@@ -12,9 +12,6 @@ use Rattle.rows.specs.Layout.{Laid, Ascends, optionsIn, markAt, rowsAt, cell, v
 use Rattle.marks.specs.Marks.{Tells, Marked}
 
 -- ---- The pass over a column f
-
-true≢false : _≡_ {A = Bool} true false → ⊥
-true≢false e = let z : _≡_ {A = ℕ} 0 1 = cc in omega arith
 
 -- The first i rows ascend, and the last of them has this number.
 pub record Rising (f : ℕ → ℕ) (i last : ℕ) : Type 0 where

@@ -24,6 +24,7 @@ use Rattle.heaps.specs.declared.Part.{Part}
 use Rattle.heaps.specs.declared.Part.the-variants.{Found, Absent}
 use Rattle.heaps.proofs.Lookups.{blob-within}
 use Rattle.layouts.specs.Kinds.{methodDef}
+use Rattle.layouts.proofs.Reaches.{and-left}
 use Rattle.record.specs.Missing.{andThen, orElse}
 use Rattle.record.specs.Columns.{methodList, methodSignature}
 use Rattle.record.specs.View.{View, viewOf}
@@ -212,10 +213,6 @@ or-either : {A : Type 0} (t : Bool) (a b : Option A) → cond t (orElse a b) b �
 or-either true a b = refl
 or-either false a b = refl
 
-and-true : (a b : Bool) → (a && b) ≡ true → a ≡ true
-and-true true b e = refl
-and-true false b e = e
-
 not-read : (b c : Bool) (p : Pass) (e : ℕ) (r : Option Signature) → cond b p (record { end = e; read = cond (c && false) r (p .read) }) .read ≡ p .read
 not-read true c p e r = refl
 not-read false true p e r = refl
@@ -387,7 +384,7 @@ module _ {t l : List ℕ} (laid : Laid t l) (strings heap : List ℕ) where
         (n : col ≡ 0 → ⊥) {b : Bool} (has : b ≡ (leb first m && ltb m (col - 1))) where
       pub read-met : b ≡ true → 0 < row → ReaderIs u m from (By class (row + 1 - 2))
       read-met e z =
-          let lo : first ≤ m = leb→le first m (rw (and-true (leb first m) (ltb m (col - 1)) (sym has ∙ e)) tt) in
+          let lo : first ≤ m = leb→le first m (and-left (leb first m) (ltb m (col - 1)) (rw (sym has ∙ e) tt)) in
           let after = f lo in (
             c,
             omega arith,

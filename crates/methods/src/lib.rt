@@ -50,7 +50,7 @@ fn scan_left(tables: &[u8], layout: &rows::Layout, row: usize) -> usize
     left
 }
 
-// The same. Where MethodList is known to ascend, the next class has taken all that those after it have left, unless its column is 0.
+// The same. Where MethodList is known to ascend, the next class alone decides, unless its column is 0: no class after it begins before it.
 fn left_after(tables: &[u8], layout: &rows::Layout, row: usize) -> usize
     requires { ⌜ Laid (now tables) (now layout) ⌝ }
     requires { ⌜ (0 < row) × (row ≤ rowsAt (now layout) 6) ⌝ }

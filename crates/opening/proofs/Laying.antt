@@ -2,9 +2,9 @@
 use mathlib.Core.Path.{_≡_, refl, sym, ap, _∙_}
 use mathlib.Core.Bool.{Bool, true, false, cond, _&&_, not}
 use mathlib.Core.Logic.{_≢_}
-use mathlib.Core.List.{List, [], _∷_, _++_, map}
-use Prim.Native.Nat.{ℕ, zero, suc, _+_, _*_, _≤_, _<_}
-use native.Mathlib.Nat.{not-suc-le-zero, le-of-suc-le-suc}
+use mathlib.Core.List.{List, [], _∷_, map}
+use Prim.Native.Nat.{ℕ, _+_, _*_, _≤_, _<_}
+use native.Mathlib.Nat.{not-suc-le-zero}
 use native.Mathlib.Omega.{arith}
 use borrow.Author.Count.{below-more}
 use borrow.Author.Tests.{eq-eqb, ne-eqb}
@@ -19,7 +19,8 @@ use Rattle.layouts.proofs.Reaches.{below}
 use Rattle.layouts.proofs.Lists.{made-at}
 use Rattle.tables.specs.Extents.{Walked, walkSays, walkReply, extent, onlyEntire, keptRows, sizesIn}
 use Rattle.tables.specs.declared.Extents.{Extents}
-use Rattle.rows.specs.Layout.{columnNumbers, allNumbers, layoutOf}
+use Rattle.rows.specs.Layout.{columnNumbers, layoutOf}
+use Rattle.rows.proofs.Laws.{numbers-at}
 use Rattle.opening.specs.Opening.{Unmarked}
 
 -- The rows that are kept, by what the code tests.
@@ -79,28 +80,10 @@ read-at g l e c h = rw e (made-at g (readColumn 19) readColumns c 0 h)
 pub kind-below : (kinds : List ℕ) → kinds ≡ map (λ x. x .kind) readColumns → (c : ℕ) → getD kinds c 0 < 64
 kind-below kinds e c = rw e (below (map (λ x. x .kind) readColumns) refl c)
 
--- The first four of a list.
-front : (x0 x1 x2 x3 : ℕ) (ys : List ℕ) (d : ℕ) → d < 4 → getD (x0 ∷ x1 ∷ x2 ∷ x3 ∷ ys) d 0 ≡ getD (x0 ∷ x1 ∷ x2 ∷ x3 ∷ []) d 0
-front x0 x1 x2 x3 ys zero h = refl
-front x0 x1 x2 x3 ys (suc zero) h = refl
-front x0 x1 x2 x3 ys (suc (suc zero)) h = refl
-front x0 x1 x2 x3 ys (suc (suc (suc zero))) h = refl
-front x0 x1 x2 x3 ys (suc (suc (suc (suc d)))) h = absurd (omega arith)
-
 module _ (o : Options) (h : Header) (n : ℕ) where
-  number-at : (cs : List Of) (rest : List ℕ) (a : Of) (c d : ℕ) → c < length cs → d < 4
-      → getD (allNumbers o h n cs ++ rest) (4 * c + d) 0 ≡ getD (columnNumbers o h n (getD cs c a)) d 0
-  number-at [] rest a c d l k = absurd (not-suc-le-zero l)
-  number-at (x ∷ cs) rest a zero d l k =
-      let e : 4 * 0 + d ≡ d = omega arith in
-      rw e (front _ _ _ _ (allNumbers o h n cs ++ rest) d k)
-  number-at (x ∷ cs) rest a (suc c) d l k =
-      let e : 4 * suc c + d ≡ suc (suc (suc (suc (4 * c + d)))) = omega arith in
-      rw e (number-at cs rest a c d (le-of-suc-le-suc l) k)
-
   layout-at : (c d : ℕ) → c < 19 → d < 4 → getD (layoutOf o h n) (4 * c + d) 0 ≡ getD (columnNumbers o h n (readColumn c)) d 0
   unfolding layoutOf
-  layout-at c d l k = number-at readColumns (o .limit ∷ cond (o .security) 1 0 ∷ []) (readColumn 19) c d l k
+  layout-at c d l k = numbers-at o h n readColumns (o .limit ∷ cond (o .security) 1 0 ∷ []) (readColumn 19) c d l k
 
   -- All turns are done, and the options are stored.
   pub whole : {l : List ℕ} {c v w : ℕ} → Filled (layoutOf o h n) l (4 * c) → c ≤ 19 → 19 ≤ c → v ≡ o .limit → w ≡ cond (o .security) 1 0

@@ -36,7 +36,7 @@ use Rattle.rows.specs.Layout.{columnNumbers, allNumbers, layoutOf, optio
 
 -- The numbers of column c stand from 4 * c on.
 module _ (o : Options) (h : Header) (n : ℕ) where
-  numbers-at : (cs : List Of) (rest : List ℕ) (d₀ : Of) (c d : ℕ) → c < length cs → d < 4
+  pub numbers-at : (cs : List Of) (rest : List ℕ) (d₀ : Of) (c d : ℕ) → c < length cs → d < 4
       → getD (allNumbers o h n cs ++ rest) (4 * c + d) 0 ≡ getD (columnNumbers o h n (getD cs c d₀)) d 0
   numbers-at [] rest d₀ c d l m = absurd (not-suc-le-zero l)
   numbers-at (x ∷ cs) rest d₀ zero zero l m = refl
