@@ -3,6 +3,8 @@
 // buffer; whether it fits is judged only at the end.
 use buffers::Place;
 use classes::TypeDefRow;
+use frames::Ascent;
+use frames::Descent;
 use numbers::Uint;
 use rendering::Rendering;
 use rows::Layout;
@@ -10,6 +12,7 @@ use shapes::Run;
 use sig_leaves::Blob;
 use sig_leaves::Owner;
 ghost use mathlib.Core.Path.{_≡_};
+ghost use mathlib.Core.Bool.{true};
 ghost use mathlib.Core.List.{List, []};
 ghost use Prim.Native.Nat.{ℕ, _+_, _<_, _≤_};
 ghost use lib.ListN.{length, getD};
@@ -17,17 +20,24 @@ ghost use Rattle.buffers.specs.Writes.{Wrote, Said, placeSays};
 ghost use Rattle.record.specs.Dims.{sep};
 ghost use Rattle.record.specs.Names.{nameAt};
 ghost use Rattle.record.specs.Readings.{known};
-ghost use Rattle.record.specs.Types.{simple, typeFullName, arguments, parameters, around, classType, generic, fnPtr, array, type};
+ghost use Rattle.record.specs.Types.{simple, typeFullName, parameters, around, classType, generic, fnPtr, array, type};
 ghost use Rattle.rows.specs.Layout.{Laid, viewIn};
 ghost use Rattle.rendering.specs.Rendered.{Rendered};
 ghost use Rattle.signatures.specs.Environment.{envIn, somebody, keyOf, ownerAt, envOf};
-ghost use Rattle.signatures.specs.Parts.{before, behind, ownerBy, argumentList, Chain};
+ghost use Rattle.signatures.specs.Parts.{before, behind, ownerBy};
+ghost use Rattle.frames.specs.Stack.{Other};
 ghost use Rattle.shapes.specs.Runs.{Plain};
 ghost use Rattle.sig_leaves.specs.Leaves.{genericsOf};
 
 // The two owners, lent as four numbers: an owner by value is copied for each call, which takes 64 bytes more
 // of stack for a nesting.
 type Owners = [usize; 4];
+
+// Frames for generic types inside of one another: first a few, which suffice nearly always; where they are all in use, many at once, so
+// that each takes few bytes of stack.
+const FEW: usize = 16;
+
+const MANY: usize = 1024;
 
 // The type at a position, with so many levels left.
 pub fn parse_sig_type(
@@ -181,7 +191,7 @@ fn sig_type(
     }
 }
 
-// The type behind such a run. 0x15 keeps the level too, and may stand before itself.
+// The type behind such a run. 0x15 keeps the level too.
 fn sig_plain(
     buf: &mut [u8],
     at: usize,
@@ -202,7 +212,7 @@ fn sig_plain(
         return Rendering::Failed(pos);
     }
     if sig[pos] == 0x15 {
-        return sig_instance(
+        return sig_few(
             buf,
             at,
             tables,
@@ -227,6 +237,183 @@ fn sig_plain(
         pos,
         left,
     )
+}
+
+// A type inside of a generic type, with other frames where none is free for it.
+fn sig_inner(
+    buf: &mut [u8],
+    at: usize,
+    tables: &[u8],
+    strings: &[u8],
+    blob: &[u8],
+    layout: &Layout,
+    owners: &Owners,
+    sig: &[u8],
+    pos: usize,
+    left: usize,
+    full: bool,
+) -> Rendering
+    requires { ⌜ Laid (now tables) (now layout) ⌝ }
+    requires { ⌜ (0 < left) × (full ≡ true → Other (now sig) pos → ⊥) ⌝ }
+    ensures { λ r. ⌜ Rendered (type (envOf (now (tables .entry)) (now (layout .entry)) (now (strings .entry)) (now (blob .entry)) (now (owners .entry))) left (now (sig .entry)) pos) (now (buf .entry)) at (now (buf .exit)) r ⌝ }
+{
+    if full {
+        return sig_many(
+            buf,
+            at,
+            tables,
+            strings,
+            blob,
+            layout,
+            owners,
+            sig,
+            pos,
+            left,
+        );
+    }
+    sig_type(
+        buf,
+        at,
+        tables,
+        strings,
+        blob,
+        layout,
+        owners,
+        sig,
+        pos,
+        left,
+    )
+}
+
+// A type that begins with a tag that keeps the level, with few frames.
+fn sig_few(
+    buf: &mut [u8],
+    at: usize,
+    tables: &[u8],
+    strings: &[u8],
+    blob: &[u8],
+    layout: &Layout,
+    owners: &Owners,
+    sig: &[u8],
+    pos: usize,
+    left: usize,
+) -> Rendering
+    requires { ⌜ Laid (now tables) (now layout) ⌝ }
+    requires { ⌜ (0 < left) × (Other (now sig) pos → ⊥) ⌝ }
+    ensures { λ r. ⌜ Rendered (type (envOf (now (tables .entry)) (now (layout .entry)) (now (strings .entry)) (now (blob .entry)) (now (owners .entry))) left (now (sig .entry)) pos) (now (buf .entry)) at (now (buf .exit)) r ⌝ }
+{
+    let mut slots = [0u16; FEW];
+    sig_level(
+        buf,
+        at,
+        tables,
+        strings,
+        blob,
+        layout,
+        owners,
+        sig,
+        pos,
+        left,
+        &mut slots,
+    )
+}
+
+// The same with many.
+fn sig_many(
+    buf: &mut [u8],
+    at: usize,
+    tables: &[u8],
+    strings: &[u8],
+    blob: &[u8],
+    layout: &Layout,
+    owners: &Owners,
+    sig: &[u8],
+    pos: usize,
+    left: usize,
+) -> Rendering
+    requires { ⌜ Laid (now tables) (now layout) ⌝ }
+    requires { ⌜ (0 < left) × (Other (now sig) pos → ⊥) ⌝ }
+    ensures { λ r. ⌜ Rendered (type (envOf (now (tables .entry)) (now (layout .entry)) (now (strings .entry)) (now (blob .entry)) (now (owners .entry))) left (now (sig .entry)) pos) (now (buf .entry)) at (now (buf .exit)) r ⌝ }
+{
+    let mut slots = [0u16; MANY];
+    sig_level(
+        buf,
+        at,
+        tables,
+        strings,
+        blob,
+        layout,
+        owners,
+        sig,
+        pos,
+        left,
+        &mut slots,
+    )
+}
+
+// All types of one level that are inside of one another, by a loop over frames. A failure anywhere in it ends the whole.
+fn sig_level(
+    buf: &mut [u8],
+    at: usize,
+    tables: &[u8],
+    strings: &[u8],
+    blob: &[u8],
+    layout: &Layout,
+    owners: &Owners,
+    sig: &[u8],
+    pos: usize,
+    left: usize,
+    slots: &mut [u16],
+) -> Rendering
+    requires { ⌜ Laid (now tables) (now layout) ⌝ }
+    requires { ⌜ (0 < left) × (Other (now sig) pos → ⊥) × (0 < length (now slots)) ⌝ }
+    ensures { λ r. ⌜ Rendered (type (envOf (now (tables .entry)) (now (layout .entry)) (now (strings .entry)) (now (blob .entry)) (now (owners .entry))) left (now (sig .entry)) pos) (now (buf .entry)) at (now (buf .exit)) r ⌝ }
+{
+    let mut k = at;
+    let mut p = pos;
+    let mut n = 0;
+    while p < sig.len() {
+        match frames::descend(sig, p, slots, n) {
+            Descent::At(to, used, full, _) => {
+                match sig_inner(
+                    buf,
+                    k,
+                    tables,
+                    strings,
+                    blob,
+                    layout,
+                    owners,
+                    sig,
+                    to,
+                    left,
+                    full,
+                ) {
+                    Rendering::Done(end, next) => {
+                        match frames::ascend(buf, end, sig, next, slots, used) {
+                            Ascent::More(place, first, still) => {
+                                k = place;
+                                p = first;
+                                n = still;
+                            }
+                            Ascent::Over(place, last) => {
+                                return Rendering::Done(place, last);
+                            }
+                            Ascent::Broken(last) => {
+                                return Rendering::Failed(last);
+                            }
+                        }
+                    }
+                    Rendering::Failed(next) => {
+                        return Rendering::Failed(next);
+                    }
+                }
+            }
+            Descent::Broken(next, _) => {
+                return Rendering::Failed(next);
+            }
+        }
+    }
+    Rendering::Failed(p)
 }
 
 // Any other type, by its tag (II.23.1.16).
@@ -488,176 +675,6 @@ fn sig_array(
         Rendering::Done(end, next) => shapes::push_shape(buf, end, sig, next),
         Rendering::Failed(next) => Rendering::Failed(next),
     }
-}
-
-// The first position from this on that does not hold 0x15.
-fn skip_chain(sig: &[u8], pos: usize) -> usize
-    ensures { λ r. ⌜ Chain (now (sig .entry)) pos r ⌝ }
-{
-    let mut p = pos;
-    while p < sig.len() {
-        if sig[p] != 0x15 {
-            return p;
-        }
-        p += 1;
-    }
-    p
-}
-
-// 0x15: a type with its arguments. The first type may be such a type again: the innermost of them is rendered, and then the arguments
-// of each, going outwards.
-fn sig_instance(
-    buf: &mut [u8],
-    at: usize,
-    tables: &[u8],
-    strings: &[u8],
-    blob: &[u8],
-    layout: &Layout,
-    owners: &Owners,
-    sig: &[u8],
-    pos: usize,
-    left: usize,
-) -> Rendering
-    requires { ⌜ Laid (now tables) (now layout) ⌝ }
-    requires { ⌜ (0 < left) × (pos < length (now sig)) × (getD (now sig) pos 0 ≡ 0x15) ⌝ }
-    ensures { λ r. ⌜ Rendered (type (envOf (now (tables .entry)) (now (layout .entry)) (now (strings .entry)) (now (blob .entry)) (now (owners .entry))) left (now (sig .entry)) pos) (now (buf .entry)) at (now (buf .exit)) r ⌝ }
-{
-    let head = skip_chain(sig, pos + 1);
-    match sig_type(
-        buf,
-        at,
-        tables,
-        strings,
-        blob,
-        layout,
-        owners,
-        sig,
-        head,
-        left,
-    ) {
-        Rendering::Done(end, past) => {
-            let mut k = end;
-            let mut p = past;
-            let mut i = head;
-            while pos < i {
-                i -= 1;
-                match sig_argument_list(
-                    buf,
-                    k,
-                    tables,
-                    strings,
-                    blob,
-                    layout,
-                    owners,
-                    sig,
-                    p,
-                    left,
-                ) {
-                    Rendering::Done(close, next) => {
-                        k = close;
-                        p = next;
-                    }
-                    Rendering::Failed(next) => {
-                        return Rendering::Failed(next);
-                    }
-                }
-            }
-            Rendering::Done(k, p)
-        }
-        Rendering::Failed(next) => Rendering::Failed(next),
-    }
-}
-
-// The arguments of a generic type in angle brackets, at most 1,000.
-fn sig_argument_list(
-    buf: &mut [u8],
-    at: usize,
-    tables: &[u8],
-    strings: &[u8],
-    blob: &[u8],
-    layout: &Layout,
-    owners: &Owners,
-    sig: &[u8],
-    pos: usize,
-    left: usize,
-) -> Rendering
-    requires { ⌜ Laid (now tables) (now layout) ⌝ }
-    ensures { λ r. ⌜ Rendered (argumentList (type (envOf (now (tables .entry)) (now (layout .entry)) (now (strings .entry)) (now (blob .entry)) (now (owners .entry))) left) (now (sig .entry)) pos) (now (buf .entry)) at (now (buf .exit)) r ⌝ }
-{
-    match sig_leaves::read_argument_count(sig, pos) {
-        Uint::Number(count, first) => {
-            let open = buffers::push(buf, at, b"<");
-            match sig_arguments(
-                buf,
-                open,
-                tables,
-                strings,
-                blob,
-                layout,
-                owners,
-                sig,
-                first,
-                left,
-                count,
-            ) {
-                Rendering::Done(close, next) => Rendering::Done(
-                    buffers::push(buf, close, b">"),
-                    next,
-                ),
-                Rendering::Failed(next) => Rendering::Failed(next),
-            }
-        }
-        Uint::NoNumber(next) => Rendering::Failed(next),
-    }
-}
-
-// So many arguments, with commas between.
-fn sig_arguments(
-    buf: &mut [u8],
-    at: usize,
-    tables: &[u8],
-    strings: &[u8],
-    blob: &[u8],
-    layout: &Layout,
-    owners: &Owners,
-    sig: &[u8],
-    pos: usize,
-    left: usize,
-    count: u32,
-) -> Rendering
-    requires { ⌜ Laid (now tables) (now layout) ⌝ }
-    requires { ⌜ at ≤ length (now buf) + 1 ⌝ }
-    ensures { λ r. ⌜ Rendered (arguments count 0 (type (envOf (now (tables .entry)) (now (layout .entry)) (now (strings .entry)) (now (blob .entry)) (now (owners .entry))) left) (now (sig .entry)) pos) (now (buf .entry)) at (now (buf .exit)) r ⌝ }
-{
-    let n = count as usize;
-    let mut p = pos;
-    let mut k = at;
-    let mut i = 0;
-    while i < n {
-        let first = push_sep(buf, k, i, b",");
-        i += 1;
-        match sig_type(
-            buf,
-            first,
-            tables,
-            strings,
-            blob,
-            layout,
-            owners,
-            sig,
-            p,
-            left,
-        ) {
-            Rendering::Done(end, next) => {
-                k = end;
-                p = next;
-            }
-            Rendering::Failed(next) => {
-                return Rendering::Failed(next);
-            }
-        }
-    }
-    Rendering::Done(k, p)
 }
 
 // 0x1B: a function pointer, whose signature is a method's (`parse_method_def_signature`).

@@ -12,8 +12,8 @@ use Rattle.rendering.proofs.Laws.{rendered-done, rendered-failed}
 use Rattle.signatures.specs.Environment.{envOf}
 use Rattle.signatures.proofs.Forms as forms
 use Rattle.signatures.proofs.sig_parameters.Reads as sig-parameters
-use Rattle.signatures.proofs.+parse_method_def_signature+sig_argument_list+sig_arguments+sig_around+sig_array+sig_class+sig_form+sig_instance+sig_parameters+sig_plain+sig_type+type_name.Lts-sig_parameters as sig-parameters-lts
-use Rattle.signatures.proofs.+parse_method_def_signature+sig_argument_list+sig_arguments+sig_around+sig_array+sig_class+sig_form+sig_instance+sig_parameters+sig_plain+sig_type+type_name.Proof.Shared.{known-sig-parameters, sig-parameters-at}
+use Rattle.signatures.proofs.+parse_method_def_signature+sig_around+sig_array+sig_class+sig_few+sig_form+sig_inner+sig_level+sig_many+sig_parameters+sig_plain+sig_type+type_name.Lts-sig_parameters as sig-parameters-lts
+use Rattle.signatures.proofs.+parse_method_def_signature+sig_around+sig_array+sig_class+sig_few+sig_form+sig_inner+sig_level+sig_many+sig_parameters+sig_plain+sig_type+type_name.Proof.Shared.{known-sig-parameters, sig-parameters-at}
 
 -- What completes the rest completes the whole.
 abbrev pub sig-parameters-Inv-loop : sig-parameters-lts.InvT-loop
@@ -29,40 +29,40 @@ sig-parameters-Inv-loop buf₀ at tables strings blob layout owners sig pos left
 abbrev pub sig-parameters-μ-loop : sig-parameters-lts.MeasureT-loop
 sig-parameters-μ-loop buf₀ at tables strings blob layout owners sig pos left count n p₀ k₀ i₀ t21 buf p k i = n - i
 
--- src/lib.rt:745:5
+-- src/lib.rt:762:5
 pub sig-parameters-loop-holds : (t : ℕ) → sig-parameters-lts.Need-loop-holds (known-sig-parameters t) (sig-parameters-at t) sig-parameters.Post sig-parameters-Inv-loop sig-parameters-μ-loop
 sig-parameters-loop-holds t c =
     let start = c .before .before .before .before .before in
     (omega arith, le-refl _, start .pre .1 .1, refl, λ b′ r h. rw sub-zero at h)
 
--- src/lib.rt:746:41
+-- src/lib.rt:763:41
 pub sig-parameters-slice-aggregate-push-sep : (t : ℕ) → sig-parameters-lts.Need-slice-aggregate-push-sep (known-sig-parameters t) (sig-parameters-at t) sig-parameters.Post sig-parameters-Inv-loop sig-parameters-μ-loop
 sig-parameters-slice-aggregate-push-sep t c = search needs
 
--- src/lib.rt:746:13
+-- src/lib.rt:763:13
 pub sig-parameters-push-sep-requires : (t : ℕ) → sig-parameters-lts.Need-push-sep-requires (known-sig-parameters t) (sig-parameters-at t) sig-parameters.Post sig-parameters-Inv-loop sig-parameters-μ-loop
 sig-parameters-push-sep-requires t c κs = search needs
 
--- src/lib.rt:747:9
+-- src/lib.rt:764:9
 pub sig-parameters-add-i : (t : ℕ) → sig-parameters-lts.Need-add-i (known-sig-parameters t) (sig-parameters-at t) sig-parameters.Post sig-parameters-Inv-loop sig-parameters-μ-loop
 sig-parameters-add-i t c = search needs
 
--- src/lib.rt:748:15
+-- src/lib.rt:765:15
 pub sig-parameters-sig-type-requires : (t : ℕ) → sig-parameters-lts.Need-sig-type-requires (known-sig-parameters t) (sig-parameters-at t) sig-parameters.Post sig-parameters-Inv-loop sig-parameters-μ-loop
 sig-parameters-sig-type-requires t c κs =
     let at-loop = c .before .before .before .before .before .before .before in
     let start = at-loop .before .before .before .before .before .before in
     (omega (arith, start .pre .0, at-loop .loop .inv .1), start .pre .1 .0)
 
--- src/lib.rt:760:29
+-- src/lib.rt:777:29
 pub sig-parameters-enum-known-end : (t : ℕ) → sig-parameters-lts.Need-enum-known-end (known-sig-parameters t) (sig-parameters-at t) sig-parameters.Post sig-parameters-Inv-loop sig-parameters-μ-loop
 sig-parameters-enum-known-end t c = search needs
 
--- src/lib.rt:745:5
+-- src/lib.rt:762:5
 pub sig-parameters-loop-less : (t : ℕ) → sig-parameters-lts.Need-loop-less (known-sig-parameters t) (sig-parameters-at t) sig-parameters.Post sig-parameters-Inv-loop sig-parameters-μ-loop
 sig-parameters-loop-less t c = search needs
 
--- src/lib.rt:745:5
+-- src/lib.rt:762:5
 pub sig-parameters-loop-again : (t : ℕ) → sig-parameters-lts.Need-loop-again (known-sig-parameters t) (sig-parameters-at t) sig-parameters.Post sig-parameters-Inv-loop sig-parameters-μ-loop
 sig-parameters-loop-again t c =
     let at-sig-type = c .before .before .before .before .before in
@@ -79,15 +79,15 @@ sig-parameters-loop-again t c =
     let t = rendered-done (at-sig-type .sig-type .ensures) (c .before .end .given .1) in
     (omega (arith, at-loop-test .loop-test .taken), le-trans (h .inv .1) (forms.type-ahead s (h .p) e (a .left) t), omega (arith, t .wrote .place, t .wrote .keeps .long), t .wrote .keeps .long ∙ at-push-sep .push-sep .ensures .keeps .long ∙ h .inv .3, λ b′ r k. h .inv .4 b′ r (forms.parameters-more T s (h .p) (h .i) (n - (h .i + 1)) step (at-push-sep .push-sep .ensures) t k))
 
--- src/lib.rt:764:31
+-- src/lib.rt:781:31
 pub sig-parameters-enum-known-after : (t : ℕ) → sig-parameters-lts.Need-enum-known-after (known-sig-parameters t) (sig-parameters-at t) sig-parameters.Post sig-parameters-Inv-loop sig-parameters-μ-loop
 sig-parameters-enum-known-after t c = search needs
 
--- src/lib.rt:745:5
+-- src/lib.rt:762:5
 pub sig-parameters-loop-less-2 : (t : ℕ) → sig-parameters-lts.Need-loop-less-2 (known-sig-parameters t) (sig-parameters-at t) sig-parameters.Post sig-parameters-Inv-loop sig-parameters-μ-loop
 sig-parameters-loop-less-2 t c = search needs
 
--- src/lib.rt:745:5
+-- src/lib.rt:762:5
 pub sig-parameters-loop-again-2 : (t : ℕ) → sig-parameters-lts.Need-loop-again-2 (known-sig-parameters t) (sig-parameters-at t) sig-parameters.Post sig-parameters-Inv-loop sig-parameters-μ-loop
 sig-parameters-loop-again-2 t c =
     let at-sig-type = c .before .before .before .before .before in
@@ -105,11 +105,11 @@ sig-parameters-loop-again-2 t c =
     let long = t .keeps .long ∙ at-push-sep .push-sep .ensures .keeps .long in
     (omega (arith, at-loop-test .loop-test .taken), le-trans (h .inv .1) (forms.failed-ahead s (h .p) e (a .left) t), omega (arith, long, h .inv .2), long ∙ h .inv .3, λ b′ r k. h .inv .4 b′ r (forms.parameters-drop T s (h .p) (h .i) (n - (h .i + 1)) step (at-push-sep .push-sep .ensures) t k))
 
--- src/lib.rt:724:1
+-- src/lib.rt:741:1
 pub sig-parameters-same-length : (t : ℕ) → sig-parameters-lts.Need-same-length (known-sig-parameters t) (sig-parameters-at t) sig-parameters.Post sig-parameters-Inv-loop sig-parameters-μ-loop
 sig-parameters-same-length t c = search needs
 
--- src/lib.rt:724:1
+-- src/lib.rt:741:1
 pub sig-parameters-returns : (t : ℕ) → sig-parameters-lts.Need-returns (known-sig-parameters t) (sig-parameters-at t) sig-parameters.Post sig-parameters-Inv-loop sig-parameters-μ-loop
 sig-parameters-returns t c =
     let start = c .before .before .before .before .before .before .before in
