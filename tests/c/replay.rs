@@ -3,7 +3,7 @@
 //!     replay CALLS
 //!
 //! A name is asked for in a buffer of its length and in one that is a byte longer. Exit status: 0 all agree, 1 some answer differs.
-use std::{env, fs, process, thread};
+use std::{env, fs, process};
 
 #[repr(C)]
 #[derive(PartialEq, Clone, Copy)]
@@ -92,7 +92,5 @@ fn replay() -> bool {
 }
 
 fn main() {
-    // types in signatures may nest deep: include/dotnet_tables.h, "Stack"
-    let thread = thread::Builder::new().stack_size(1 << 30).spawn(replay).expect("a thread with that stack");
-    process::exit(if thread.join().unwrap_or(false) { 0 } else { 1 });
+    process::exit(if replay() { 0 } else { 1 });
 }

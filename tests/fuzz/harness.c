@@ -13,7 +13,6 @@
 #include <stdlib.h>
 #include <string.h>
 #include <sys/mman.h>
-#include <sys/resource.h>
 #include <sys/time.h>
 #include <time.h>
 #include <unistd.h>
@@ -22,7 +21,6 @@
 #define MOST 65536           /* bytes of an input */
 #define ROOM (1 << 20)       /* bytes of the largest buffer */
 #define CANARY 64            /* bytes before the buffer */
-#define STACK (1ul << 30)
 #define TICK 50000           /* microseconds */
 #define TICKS_A_CALL 6
 
@@ -392,12 +390,6 @@ static void run_inputs(unsigned long times) {
 }
 
 int main(int argc, char **argv) {
-    struct rlimit limit;
-    getrlimit(RLIMIT_STACK, &limit);
-    if (limit.rlim_cur < STACK && limit.rlim_cur < limit.rlim_max) { /* for this program started again */
-        limit.rlim_cur = limit.rlim_max < STACK ? limit.rlim_max : STACK;
-        if (!setrlimit(RLIMIT_STACK, &limit)) execv("/proc/self/exe", argv);
-    }
     int lengths_only = argc == 3 && !strcmp(argv[1], "lengths");
     if (!lengths_only && !(argc == 5 && !strcmp(argv[1], "inputs"))) {
         fprintf(stderr, "usage: harness lengths SEEDS, or harness inputs SEEDS N SEED\n");
