@@ -12,6 +12,7 @@ HERE = os.path.dirname(os.path.abspath(__file__))
 ORACLE = os.path.join(HERE, "..", "..", "target", "oracle", "oracle")
 SECONDS = 2
 MEMORY = 4 << 30
+STACK = 8 << 20  # the usual limit
 
 
 class Batch:
@@ -64,6 +65,12 @@ class Oracle(Batch):
 def limit_memory():
     resource.setrlimit(resource.RLIMIT_AS, (MEMORY, MEMORY))
     resource.setrlimit(resource.RLIMIT_CORE, (0, 0))
+
+
+def limit_stack():
+    """The usual limit for all that is started from here on; the oracle makes a stack for itself. A hard limit that is lower stays."""
+    _, hard = resource.getrlimit(resource.RLIMIT_STACK)
+    resource.setrlimit(resource.RLIMIT_STACK, (STACK if hard == resource.RLIM_INFINITY else min(STACK, hard), hard))
 
 
 def length(data):
