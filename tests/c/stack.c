@@ -3,9 +3,9 @@
      stack ROOM
 
    Standard input holds inputs as the listing program has them, but of any length, each after a 4-byte little-endian length. Standard
-   output gets for each a text after its length in the same form: for every call a line with its name, the bytes of stack that it took,
-   its refusal and its value. It is asked for the first class, method, parameter and so on, on a thread with a stack of ROOM bytes, all 0
-   before: what it took reaches down to the lowest byte that is not 0 afterwards. tests/stack reads the lines. */
+   output gets for each a text after its length in the same form: for every call a line with its name and the bytes of stack that it took.
+   It is asked for the first class, method, parameter and so on, on a thread with a stack of ROOM bytes, all 0 before: what it took reaches
+   down to the lowest byte that is not 0 afterwards. tests/stack reads the lines. */
 #define _GNU_SOURCE
 #include <pthread.h>
 #include <stdio.h>
@@ -17,11 +17,10 @@
 
 #define NAME 4096          /* bytes of the buffer that is lent for a name */
 #define GUARD (1 << 16)    /* bytes below the stack that are not to be touched */
-#define LINES (CALLS * 80) /* bytes of an answer */
+#define LINES (CALLS * 60) /* bytes of an answer */
 
 static struct input input;
 static const struct call *call;
-static dn_reply reply;
 static char *stack, *top;
 static size_t room;
 
@@ -29,7 +28,7 @@ static void *ask(void *none) {
     static uint8_t name[NAME];
     static const uint32_t first[3];
     top = __builtin_frame_address(0);
-    reply = call->ask(&input, first, (struct buffer){ name, sizeof name });
+    call->ask(&input, first, (struct buffer){ name, sizeof name });
     return none;
 }
 
@@ -60,10 +59,8 @@ int main(int argc, char **argv) {
     while ((data = read_input(&input))) {
         char text[LINES];
         size_t size = 0;
-        for (call = calls; call < calls + CALLS; call++) {
-            size_t took = measure();
-            size += (size_t)snprintf(text + size, LINES - size, "%s %zu %zu %zu\n", call->name, took, reply.refusal, reply.value);
-        }
+        for (call = calls; call < calls + CALLS; call++)
+            size += (size_t)snprintf(text + size, LINES - size, "%s %zu\n", call->name, measure());
         write_answer(text, size);
         free(data);
     }
