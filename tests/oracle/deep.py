@@ -6,6 +6,7 @@ from dice import Dice, shortest, unsigned
 
 MOST = 65536  # bytes of an input
 SIGNATURE = 4090
+LONG = 65400  # bytes of a signature, in an input that has little else
 BLOCK = 100  # nestings of a kind, one after the other
 MIXTURES = 12
 LENGTHS = 1, 16, 1024, 5000  # the most nestings of a kind in a row, in a mixture
@@ -114,7 +115,8 @@ def same_bytes(start, content):
     return with_blob(blob + signature, 1, [len(blob) + len(start) + 1])
 
 
-RETURNED, GIVEN = b"\x00\x01", b"\x00\x01\x01"  # what stands before a return type, and before a parameter
+# What stands before a return type, and before a parameter.
+STARTS = {"returned": b"\x00\x01", "as a parameter": b"\x00\x01\x01"}
 
 
 def room(start, most=MOST):
@@ -133,7 +135,8 @@ def all_inputs():
 
 def long_inputs():
     """(name, input): the longest that the programs take."""
-    size = room(GIVEN) - 20
     for name, run in RUNS.items():
         for form in (itself, once, behind):
-            yield "%s, %s, long" % (name, form.__name__), form(run, size)
+            yield "%s, %s, long" % (name, form.__name__), form(run, LONG)
+        for where, start in STARTS.items():
+            yield "%s, %s, long" % (name, where), same_bytes(start, nested((run[0], b""), room(start) - len(named(1)), named(1)))
