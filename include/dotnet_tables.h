@@ -25,8 +25,9 @@
  * A call for a name answers its length. Its bytes then stand at the front of the buffer, and every other byte of the buffer is 0; so is
  * every byte where the call is refused. A name is bytes as they stand in the file: no zero ends it.
  *
- * Stack: types in signatures may nest, and the calls for types and base types recurse as deep as they do. For streams of up to 65,536
- * bytes in all, 256 MiB of stack suffice (docs/DECISIONS.md, "Stack"): run untrusted input on a thread that has them. */
+ * Stack: for streams of up to 65,536 bytes in all, the usual 8 MiB suffice; no call takes more than 4 of them, which tests/stack holds
+ * the archive to. Types in larger streams may nest deeper: a call takes at most 40 bytes of stack for each byte of its streams, and 128
+ * KiB besides (docs/DECISIONS.md, "Stack"). */
 #ifndef DOTNET_TABLES_H
 #define DOTNET_TABLES_H
 
