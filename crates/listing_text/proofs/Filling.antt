@@ -55,7 +55,7 @@ module _ (v : View) (room : ℕ) (t : Text) (c : Cursor) where
   is-done zero e = refl
   is-done (suc n) e = rw e
 
-  is-full : (n : ℕ) → room < length (t ++ lineAt v c) → pieceFrom v room n t c ≡ ends
+  pub is-full : (n : ℕ) → room < length (t ++ lineAt v c) → pieceFrom v room n t c ≡ ends
   unfolding pieceFrom
   is-full zero h = refl
   is-full (suc n) h = rw (lt-leb _ _ h) (either-same (isDone (c .place)) ends)

@@ -27,7 +27,7 @@ use Rattle.record.specs.View.{View, viewOf, view, sideRow}
 use Rattle.record.specs.Columns.{owner, genericName, implClass, implInterface, extends, methodSignature}
 use Rattle.record.specs.Names.{rowsIn, sizesOf, classes, classRow, methodRow, classIndex, numberIn, typeNameIn, baseTypes, levels}
 use Rattle.record.specs.Methods.{Signature, Pass, tries, signature, readBy, handle, pass, signatureOf, leftAfter, methodLists}
-use Rattle.record.specs.Record.{Method, parametersFrom, method, class, classRecord}
+use Rattle.record.specs.Record.{parametersFrom, method, class, classRecord}
 use Rattle.record.proofs.Extents.{kept-le}
 use Rattle.record.proofs.Read.{left-le}
 use Rattle.listing_whole.proofs.Whole.{item-below, FewInMethod, FewInClass, FewIn}
@@ -157,6 +157,15 @@ present-few {A} {B} f (a ∷ l) = go (f a) (present-few f l)
     go none h = omega arith
     go (some b) h = omega arith
 
+-- What holds of all that a list is made of holds of its items.
+pub tabulated : {A : Type 0} (P : A → Type 0) (f : ℕ → A) (start n : ℕ) → ((j : ℕ) → P (f j)) → (i : ℕ) (a : A)
+    → getElem? (tabulate f start n) i ≡ some a → P a
+tabulated P f start n h i a e =
+    let below : i < n = omega (arith, item-below (tabulate f start n) i e, tabulate-length f start n) in
+    let is : some (f (start + i)) ≡ some a = sym (tabulate-item f start n i below) ∙ e in
+    let same : f (start + i) ≡ a = cc in
+    subst P same (h (start + i))
+
 module _ (t strings heap : List ℕ) where
   abbrev v : View
   v = view base t strings heap
@@ -210,18 +219,8 @@ module _ (t strings heap : List ℕ) where
     generics = omega (arith, generics-few (2 * classIndex c));
     bases = omega (arith, bases-few c);
     methods = omega (arith, left-few (c + 1), tabulate-length (method v) (leftAfter v c) (leftAfter v (c + 1) - leftAfter v c));
-    each = λ i m e. each-method c i m e;
+    each = tabulated FewInMethod (method v) (leftAfter v c) (leftAfter v (c + 1) - leftAfter v c) few-method;
   }
-    where
-      each-method : (c i : ℕ) (m : Method)
-          → getElem? (tabulate (method v) (leftAfter v c) (leftAfter v (c + 1) - leftAfter v c)) i ≡ some m → FewInMethod m
-      each-method c i m e =
-          let n = leftAfter v (c + 1) - leftAfter v c in
-          let long = tabulate-length (method v) (leftAfter v c) n in
-          let below : i < n = omega (arith, item-below (tabulate (method v) (leftAfter v c) n) i e) in
-          let is : some (method v (leftAfter v c + i)) ≡ some m = sym (tabulate-item (method v) (leftAfter v c) n i below) ∙ e in
-          let same : method v (leftAfter v c + i) ≡ m = cc in
-          subst FewInMethod same (few-method (leftAfter v c + i))
 
   classes-few : classes v ≤ 15000
   unfolding classes
@@ -231,10 +230,5 @@ module _ (t strings heap : List ℕ) where
   unfolding classRecord
   few-in = record {
     classes = omega (arith, classes-few, tabulate-length (class v) 0 (classes v));
-    each = λ i c e.
-        let long = tabulate-length (class v) 0 (classes v) in
-        let below : i < classes v = omega (arith, item-below (tabulate (class v) 0 (classes v)) i e) in
-        let is : some (class v (0 + i)) ≡ some c = sym (tabulate-item (class v) 0 (classes v) i below) ∙ e in
-        let same : class v (0 + i) ≡ c = cc in
-        subst FewInClass same (few-class (0 + i));
+    each = tabulated FewInClass (class v) 0 (classes v) few-class;
   }

@@ -1,3 +1,4 @@
 pub mod Whole
 pub mod Few
+pub mod Longest
 pub mod Pieces

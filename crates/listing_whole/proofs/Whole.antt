@@ -1,9 +1,9 @@
--- The proof that the listing line by line is the listing. Assumes nothing.
+-- The proof that the listing line by line is the listing, and in how many steps. Assumes nothing.
 use mathlib.Core.Path.{_≡_, refl, sym, _∙_, ap, subst}
 use mathlib.Core.Bool.{Bool, true, cond}
 use mathlib.Core.List.{List, [], _∷_, _++_, append-assoc, append-nil}
 use mathlib.Core.Option.{Option, none, some}
-use Prim.Native.Nat.{ℕ, zero, suc, _+_, _<_, _≤_}
+use Prim.Native.Nat.{ℕ, zero, suc, _+_, _*_, _<_, _≤_}
 use native.Mathlib.Omega.{arith}
 use lib.ListN.{length, getElem?}
 use Rattle.buffers.specs.Texts.{Text, q}
@@ -22,9 +22,13 @@ use Rattle.lines.specs.Cursors.{cursor, first, done, nextNumber, stopLine, afte
 use Rattle.lines.specs.declared.Place.the-variants.{Class as AtClass, Generic, Base, Method as AtMethod, MethodGeneric, ParamType}
 use Rattle.lines.specs.declared.Cursor.{Cursor}
 
--- A cursor has 32 bits for a number, so nothing that is counted may have more items than that. (Few.antt shows that nothing has.)
+-- Nothing that the record counts has more items than a table has rows, and one more for the type that a class extends. (Few.antt shows
+-- it.) So the listing has an end that can be counted to, and no number of a cursor comes near its 32 bits.
+abbrev pub most : ℕ
+most = 15_001
+
 abbrev pub Few : {A : Type 0} → List A → Type 0
-Few l = length l ≤ 0xFFFF_FFFF
+Few l = length l ≤ most
 
 pub record FewInMethod (m : Method) : Type 0 where
   pub generics : Few (m .generics)
@@ -40,26 +44,41 @@ pub record FewIn (v : View) : Type 0 where
   pub classes : Few (classRecord v)
   pub each : (i : ℕ) (c : Class) → getElem? (classRecord v) i ≡ some c → FewInClass c
 
--- Steps one after the other, and one more step in front.
+-- At most n steps from one cursor to another, and the text of their lines.
+pub data Within (v : View) : ℕ → Cursor → Text → Cursor → Type 0 where
+  stay : {n : ℕ} {c : Cursor} → Within v n c [] c
+  go : {n : ℕ} {c d : Cursor} {t : Text} → Within v n (nextAt v c) t d → Within v (suc n) c (lineAt v c ++ t) d
+
 module _ {v : View} where
-  pub then : {a b c : Cursor} {t u : Text} → Steps v a t b → Steps v b u c → Steps v a (t ++ u) c
-  then here r = r
-  then {c = e} {u = u} (onward {c} {d} {t} s) r =
-      subst (λ (x : Text). Steps v c x e) (sym (append-assoc (lineAt v c) t u)) (onward (then s r))
+  pub the-steps : {n : ℕ} {c d : Cursor} {t : Text} → Within v n c t d → Steps v c t d
+  the-steps stay = here
+  the-steps (go s) = onward (the-steps s)
 
-  after : {c d e : Cursor} {t u : Text} → lineAt v c ≡ t → nextAt v c ≡ d → Steps v d u e → Steps v c (t ++ u) e
-  after {c} {d} {e} {t} {u} l n s = subst (λ (x : Text). Steps v c (x ++ u) e) l (onward (subst (λ (x : Cursor). Steps v x u e) (sym n) s))
+  pub fewer : {m n : ℕ} {c d : Cursor} {t : Text} → m ≤ n → Within v m c t d → Within v n c t d
+  fewer h stay = stay
+  fewer {n = zero} h (go s) = absurd (omega arith)
+  fewer {n = suc n} h (go s) = go {n = n} (fewer (omega arith) s)
 
-  single : {c d : Cursor} {t : Text} → lineAt v c ≡ t → nextAt v c ≡ d → Steps v c t d
-  single {c} {d} {t} l n = subst (λ (x : Text). Steps v c x d) (append-nil t) (after l n here)
+  -- Steps one after the other, and one more step in front.
+  pub then : {m n : ℕ} {a b c : Cursor} {t u : Text} → Within v m a t b → Within v n b u c → Within v (m + n) a (t ++ u) c
+  then stay r = fewer (omega arith) r
+  then {n = k} {c = e} {u = u} (go {n} {c} {d} {t} s) r =
+      fewer (omega arith) (subst (λ (x : Text). Within v (suc (n + k)) c x e) (sym (append-assoc (lineAt v c) t u)) (go (then s r)))
+
+  after : {n : ℕ} {c d e : Cursor} {t u : Text} → lineAt v c ≡ t → nextAt v c ≡ d → Within v n d u e → Within v (suc n) c (t ++ u) e
+  after {n} {c} {d} {e} {t} {u} l g s =
+      subst (λ (x : Text). Within v (suc n) c (x ++ u) e) l (go (subst (λ (x : Cursor). Within v n x u e) (sym g) s))
+
+  single : {c d : Cursor} {t : Text} → lineAt v c ≡ t → nextAt v c ≡ d → Within v 1 c t d
+  single {c} {d} {t} l g = subst (λ (x : Text). Within v 1 c x d) (append-nil t) (after {n = 0} l g stay)
 
   -- The items of a list, by the steps of each.
-  items : {A : Type 0} (f : A → Text) (at : ℕ → Cursor) {end : Cursor} (l : List A)
-      → ((i : ℕ) (a : A) → getElem? l i ≡ some a → Steps v (at i) (f a) (at (suc i))) → Steps v (at (length l)) [] end
-      → Steps v (at 0) (each f l) end
+  items : {A : Type 0} (f : A → Text) (at : ℕ → Cursor) {end : Cursor} {k m : ℕ} (l : List A)
+      → ((i : ℕ) (a : A) → getElem? l i ≡ some a → Within v k (at i) (f a) (at (suc i))) → Within v m (at (length l)) [] end
+      → Within v (k * length l + m) (at 0) (each f l) end
   unfolding each
-  items f at [] one past = past
-  items f at (a ∷ l) one past = then (one 0 a refl) (items f (λ i. at (suc i)) l (λ i b e. one (suc i) b e) past)
+  items f at [] one past = fewer (omega arith) past
+  items f at (a ∷ l) one past = fewer (omega arith) (then (one 0 a refl) (items f (λ i. at (suc i)) l (λ i b e. one (suc i) b e) past))
 
 -- An item of a list has a number below the list's length, and past the end there is none.
 pub item-below : {A : Type 0} (l : List A) (i : ℕ) {a : A} → getElem? l i ≡ some a → i < length l
@@ -99,6 +118,16 @@ module _ {a : Answer Text} (e : a ≡ refused (number NoSuchRow)) where
   leaves : (x y : Cursor) → cond (hasLine a) x y ≡ y
   leaves x y = ap (λ (b : Bool). cond b x y) (ap hasLine e)
 
+-- How many steps the lines of a method, of a class and of a record take: a step for each line, and one past the end of each list.
+abbrev methodSteps : ℕ
+methodSteps = 3 * most + 5
+
+abbrev classSteps : ℕ
+classSteps = (methodSteps + 2) * most + 5
+
+abbrev pub listingSteps : ℕ
+listingSteps = classSteps * most + 3
+
 -- A method's lines.
 module _ (v : View) (c m : ℕ) (k : Method) (is : theMethod v c m ≡ value k) where
   generic-at : (i : ℕ) {o : Option Text} → getElem? (k .generics) i ≡ some o → methodGenericName v c m i ≡ nameOr5 o
@@ -135,29 +164,30 @@ module _ (v : View) (c m : ℕ) (k : Method) (is : theMethod v c m ≡ value k) 
 
   module _ (few : FewInMethod k) where
     generic-step : (i : ℕ) (o : Option Text) → getElem? (k .generics) i ≡ some o
-        → Steps v (cursor MethodGeneric c m i) (valueLine (q "mgeneric=") o) (cursor MethodGeneric c m (suc i))
+        → Within v 1 (cursor MethodGeneric c m i) (valueLine (q "mgeneric=") o) (cursor MethodGeneric c m (suc i))
     unfolding lineAt nextAt
     generic-step i o e =
         single (told o (generic-at i e) (q "mgeneric="))
         (goes o (generic-at i e) _ _ ∙ ap (cursor MethodGeneric c m) (next-few (k .generics) i (few .generics) e))
 
     parameter-steps : (i : ℕ) (p : Parameter) → getElem? (k .parameters) i ≡ some p
-        → Steps v (cursor ParamType c m i) (parameterLines p) (cursor ParamType c m (suc i))
+        → Within v 2 (cursor ParamType c m i) (parameterLines p) (cursor ParamType c m (suc i))
     unfolding parameterLines lineAt nextAt
     parameter-steps i p e =
         after (told (p .type) (type-at i e) (q "ptype=")) (goes (p .type) (type-at i e) _ _)
         (single (told (p .name) (name-at i e) (q "pname=")) (ap (cursor ParamType c m) (next-few (k .parameters) i (few .parameters) e)))
 
-    method-steps : nextNumber m ≡ suc m → Steps v (cursor AtMethod c m 0) (methodLines k) (cursor AtMethod c (suc m) 0)
+    method-steps : nextNumber m ≡ suc m → Within v methodSteps (cursor AtMethod c m 0) (methodLines k) (cursor AtMethod c (suc m) 0)
     unfolding methodLines lineAt nextAt
     method-steps n =
-        after (told (k .name) method-name (q "method=")) (goes (k .name) method-name _ _)
+        fewer (omega (arith, few .generics, few .parameters))
+        (after (told (k .name) method-name (q "method=")) (goes (k .name) method-name _ _)
         (after (ap (answerLine (q "mflags=")) method-flags) refl
         (then (items (valueLine (q "mgeneric=")) (cursor MethodGeneric c m) (k .generics) generic-step
         (single (untold generic-past (q "mgeneric=")) (leaves generic-past _ _)))
         (after (told (k .returns) return-type (q "returns=")) refl
         (items parameterLines (cursor ParamType c m) (k .parameters) parameter-steps
-        (single (untold type-past (q "ptype=")) (leaves type-past _ _ ∙ ap (λ (x : ℕ). cursor AtMethod c x 0) n))))))
+        (single (untold type-past (q "ptype=")) (leaves type-past _ _ ∙ ap (λ (x : ℕ). cursor AtMethod c x 0) n)))))))
 
 -- A class's lines.
 module _ (v : View) (c : ℕ) (k : Class) (is : theClass v c ≡ value k) where
@@ -194,34 +224,35 @@ module _ (v : View) (c : ℕ) (k : Class) (is : theClass v c ≡ value k) where
 
   module _ (few : FewInClass k) where
     class-generic-step : (i : ℕ) (o : Option Text) → getElem? (k .generics) i ≡ some o
-        → Steps v (cursor Generic c 0 i) (valueLine (q "generic=") o) (cursor Generic c 0 (suc i))
+        → Within v 1 (cursor Generic c 0 i) (valueLine (q "generic=") o) (cursor Generic c 0 (suc i))
     unfolding lineAt nextAt
     class-generic-step i o e =
         single (told o (class-generic i e) (q "generic="))
         (goes o (class-generic i e) _ _ ∙ ap (cursor Generic c 0) (next-few (k .generics) i (few .generics) e))
 
     base-step : (i : ℕ) (t : Text) → getElem? (k .bases) i ≡ some t
-        → Steps v (cursor Base c 0 i) (valueLine (q "base=") (some t)) (cursor Base c 0 (suc i))
+        → Within v 1 (cursor Base c 0 i) (valueLine (q "base=") (some t)) (cursor Base c 0 (suc i))
     unfolding lineAt nextAt
     base-step i t e =
         single (told (some t) (base-at i e) (q "base="))
         (goes (some t) (base-at i e) _ _ ∙ ap (cursor Base c 0) (next-few (k .bases) i (few .bases) e))
 
     method-turn : (m : ℕ) (x : Method) → getElem? (k .methods) m ≡ some x
-        → Steps v (cursor AtMethod c m 0) (methodLines x) (cursor AtMethod c (suc m) 0)
+        → Within v methodSteps (cursor AtMethod c m 0) (methodLines x) (cursor AtMethod c (suc m) 0)
     method-turn m x e = method-steps v c m x (method-at m e) (few .each m x e) (next-few (k .methods) m (few .methods) e)
 
-    class-steps : nextNumber c ≡ suc c → Steps v (cursor AtClass c 0 0) (classLines k) (cursor AtClass (suc c) 0 0)
+    class-steps : nextNumber c ≡ suc c → Within v classSteps (cursor AtClass c 0 0) (classLines k) (cursor AtClass (suc c) 0 0)
     unfolding classLines lineAt nextAt
     class-steps n =
-        after (told (k .name) class-name (q "class=")) (goes (k .name) class-name _ _)
+        fewer (omega (arith, few .generics, few .bases, few .methods))
+        (after (told (k .name) class-name (q "class=")) (goes (k .name) class-name _ _)
         (after (ap (answerLine (q "flags=")) class-flags) refl
         (then (items (valueLine (q "generic=")) (cursor Generic c 0) (k .generics) class-generic-step
         (single (untold class-generic-past (q "generic=")) (leaves class-generic-past _ _)))
         (then (items (λ b. valueLine (q "base=") (some b)) (cursor Base c 0) (k .bases) base-step
         (single (untold base-past (q "base=")) (leaves base-past _ _)))
         (items methodLines (λ (m : ℕ). cursor AtMethod c m 0) (k .methods) method-turn
-        (single (untold method-past (q "method=")) (leaves method-past _ _ ∙ ap (λ (x : ℕ). cursor AtClass x 0 0) n))))))
+        (single (untold method-past (q "method=")) (leaves method-past _ _ ∙ ap (λ (x : ℕ). cursor AtClass x 0 0) n)))))))
 
 -- The whole listing, by what opening the streams found.
 module _ (v : View) (few : FewIn v) where
@@ -238,16 +269,17 @@ module _ (v : View) (few : FewIn v) where
     class-count = rw ready
 
     class-turn : (c : ℕ) (k : Class) → getElem? (classRecord v) c ≡ some k
-        → Steps v (cursor AtClass c 0 0) (classLines k) (cursor AtClass (suc c) 0 0)
+        → Within v classSteps (cursor AtClass c 0 0) (classLines k) (cursor AtClass (suc c) 0 0)
     class-turn c k e = class-steps v c k (class-at c e) (few .each c k e) (next-few (classRecord v) c (few .classes) e)
 
-    record-steps : (stop : ℕ) → walkAnswer v .stop ≡ value stop → Steps v first (recordLines stop (classRecord v)) done
+    record-steps : (stop : ℕ) → walkAnswer v .stop ≡ value stop → Within v listingSteps first (recordLines stop (classRecord v)) done
     unfolding recordLines lineAt nextAt
     record-steps stop e =
-        after (ap stopLine e) (ap afterStop e)
+        fewer (omega (arith, few .classes))
+        (after (ap stopLine e) (ap afterStop e)
         (after (ap (answerLine (q "classes=")) class-count) refl
         (items classLines (λ (c : ℕ). cursor AtClass c 0 0) (classRecord v) class-turn
-        (single (untold class-past (q "class=")) (leaves class-past _ _))))
+        (single (untold class-past (q "class=")) (leaves class-past _ _)))))
 
     listing-found : (stop : ℕ) → walkAnswer v .stop ≡ value stop → listing v ≡ recordLines stop (classRecord v)
     unfolding listing
@@ -257,7 +289,7 @@ module _ (v : View) (few : FewIn v) where
   unfolding listing
   listing-refused n e = rw e
 
-  refused-steps : (n : ℕ) → walkAnswer v .stop ≡ refused n → Steps v first (refusedLine n) done
+  refused-steps : (n : ℕ) → walkAnswer v .stop ≡ refused n → Within v 1 first (refusedLine n) done
   unfolding lineAt nextAt
   refused-steps n e = single (ap stopLine e) (ap afterStop e)
 
@@ -266,10 +298,10 @@ module _ (v : View) (few : FewIn v) where
   stop-refused e = rw e
 
   abbrev Listed : Text → Type 0
-  Listed t = Steps v first t done
+  Listed t = Within v listingSteps first t done
 
   by-opening : (a : Opened) → v .header .answer ≡ a → (s : Answer ℕ) → walkAnswer v .stop ≡ s → Listed (listing v)
-  by-opening a e (refused n) f = subst Listed (sym (listing-refused n f)) (refused-steps n f)
+  by-opening a e (refused n) f = subst Listed (sym (listing-refused n f)) (fewer (omega arith) (refused-steps n f))
   by-opening (Refused why) e (value stop) f =
       let g : refused (number why) ≡ value stop = sym (stop-refused e) ∙ f in
       let z : _≡_ {A = ℕ} 0 1 = cc in
@@ -278,5 +310,5 @@ module _ (v : View) (few : FewIn v) where
       let ready : theClasses v ≡ value (classRecord v) = rw e in
       subst Listed (sym (listing-found ready stop f)) (record-steps ready stop f)
 
-pub listed : (v : View) → FewIn v → Steps v first (listing v) done
+pub listed : (v : View) → FewIn v → Within v listingSteps first (listing v) done
 listed v few = by-opening v few (v .header .answer) refl (walkAnswer v .stop) refl

@@ -1,1 +1,2 @@
-// That the listing line by line is the listing: the statement in specs/, its proof in proofs/. There is no code here.
+// That the listing line by line and piece by piece is the listing, and comes to its end: the statements in specs/, their proofs in proofs/.
+// There is no code here.
