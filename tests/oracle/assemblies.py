@@ -1,4 +1,5 @@
-"""Inputs of the listing program from real assemblies: those of tests/csharp, and parts of those that come with the C# compiler."""
+"""Inputs of the listing program from real assemblies: those of tests/csharp, those of Debian's mono packages that an input holds whole, and
+parts of those that come with the C# compiler."""
 
 import glob
 import os
@@ -8,6 +9,7 @@ import sys
 HERE = os.path.dirname(os.path.abspath(__file__))
 ROOT = os.path.join(HERE, "..", "..")
 CSHARP = os.path.join(ROOT, "target", "csharp")
+UNPACKED = os.path.join(ROOT, "target", "mono")
 INSTALLED = "/usr/lib/mono"
 
 sys.path.append(os.path.join(ROOT, "tools"))
@@ -17,7 +19,16 @@ from streams import MOST_BYTES, Unfit, bundle, streams
 
 def build():
     """Compiles the sources of tests/csharp; False where they cannot be compiled."""
-    return subprocess.run([os.path.join(ROOT, "tests", "csharp", "build")], stdout=subprocess.DEVNULL, check=False).returncode == 0
+    return run("build")
+
+
+def unpack():
+    """Takes assemblies out of Debian's packages; False where they cannot be had."""
+    return run("unpack")
+
+
+def run(script):
+    return subprocess.run([os.path.join(ROOT, "tests", "csharp", script)], stdout=subprocess.DEVNULL, check=False).returncode == 0
 
 
 def three_streams(paths):
@@ -33,7 +44,16 @@ def three_streams(paths):
 
 def compiled():
     """(name, input) of each assembly of tests/csharp, by name."""
-    return [(name, bundle(*three)) for name, three in three_streams(sorted(glob.glob(os.path.join(CSHARP, "*.dll"))))]
+    return whole(CSHARP)
+
+
+def unpacked():
+    """(name, input) of each assembly that `unpack` has taken out, by name."""
+    return whole(UNPACKED)
+
+
+def whole(folder):
+    return [(name, bundle(*three)) for name, three in three_streams(sorted(glob.glob(os.path.join(folder, "*.dll"))))]
 
 
 def installed():

@@ -1,9 +1,9 @@
-//! The Rust's listing for a C program: the root of target/oracle/liboracle.a. bench/bench.c measures it.
+//! The Rust's listings for a C program: the root of target/oracle/liboracle.a. bench/bench.c measures them.
 
 use std::slice;
 
 use bundle::Streams;
-use module::dotnet::listing;
+use module::dotnet::{fields, values};
 
 #[allow(dead_code)]
 mod bundle;
@@ -35,10 +35,12 @@ unsafe fn streams<'a>(tables: Part, strings: Part, blob: Part) -> Streams<'a> {
     }
 }
 
+/// The listing of the part that we take, and no other work. Nothing is freed.
+///
 /// # Safety
 /// The parts can be read, and the text has room for the listing; else it panics, which ends the process.
 #[no_mangle]
-pub unsafe extern "C" fn rust_listing(
+pub unsafe extern "C" fn rust_fields(
     tables: Part,
     strings: Part,
     blob: Part,
@@ -46,27 +48,21 @@ pub unsafe extern "C" fn rust_listing(
     room: usize,
 ) -> usize {
     let text = slice::from_raw_parts_mut(text, room);
-    listing::write(&streams(tables, strings, blob), text)
+    fields::write(&streams(tables, strings, blob), text)
 }
 
-/// A metadata root around the streams, for `rust_values`. It is never freed.
+/// The same listing, by way of all the values that the Rust makes, which are freed.
 ///
 /// # Safety
-/// The parts can be read.
+/// As for `rust_fields`.
 #[no_mangle]
-pub unsafe extern "C" fn rust_block(tables: Part, strings: Part, blob: Part) -> Part {
-    let block = listing::block(&streams(tables, strings, blob)).leak();
-    Part {
-        at: block.as_ptr(),
-        length: block.len(),
-    }
-}
-
-/// What `add_metadata_tables` does, its values freed.
-///
-/// # Safety
-/// The block can be read.
-#[no_mangle]
-pub unsafe extern "C" fn rust_values(block: Part) -> usize {
-    listing::values(block.bytes())
+pub unsafe extern "C" fn rust_values(
+    tables: Part,
+    strings: Part,
+    blob: Part,
+    text: *mut u8,
+    room: usize,
+) -> usize {
+    let text = slice::from_raw_parts_mut(text, room);
+    values::write(&streams(tables, strings, blob), text)
 }

@@ -11,9 +11,11 @@ pub mod dotnet {
     include!("module/dotnet.rs");
 
     // Children of `dotnet`, so that they see the private functions and fields.
+    pub mod fields;
     pub mod leaves;
-    pub mod listing;
+    mod page;
     pub mod probe;
+    pub mod values;
 }
 
 #[derive(Clone, Debug, PartialEq)]

@@ -19,6 +19,14 @@ pub enum NoAnswer {
     Inconsistent(&'static str),
 }
 
+/// The number that `open` says no with.
+pub(super) fn refusal(why: NoAnswer) -> u8 {
+    match why {
+        NoAnswer::Refused(number) => number,
+        _ => unreachable!(),
+    }
+}
+
 #[derive(Clone, Copy, Default)]
 pub struct Extent {
     pub start: usize,
@@ -149,7 +157,7 @@ pub(super) fn heaps_alone(heap: &[u8]) -> TablesData<'_> {
     tables_data(&streams, &opened)
 }
 
-pub(super) fn no_sections() -> pe_utils::SectionTable<'static> {
+fn no_sections() -> pe_utils::SectionTable<'static> {
     let zeros = [0; 512];
     let (headers, _) = object::pod::from_bytes::<ImageNtHeaders32>(&zeros).unwrap();
     pe_utils::SectionTable::new(headers, &[], 0).unwrap()
@@ -390,7 +398,7 @@ fn original_values(streams: &Streams) -> HashMap<&'static str, Value> {
 }
 
 /// A root, a directory of three streams, and the streams (ECMA 335, II.24.2.1 and II.24.2.2).
-pub(super) fn metadata_block(streams: &Streams) -> Vec<u8> {
+fn metadata_block(streams: &Streams) -> Vec<u8> {
     const NAMES: [&[u8]; 3] = [b"#~\0\0", b"#Strings\0\0\0\0", b"#Blob\0\0\0"];
     let contents = [streams.tables, streams.strings, streams.blob];
 
