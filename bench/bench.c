@@ -1,20 +1,21 @@
-/* Our listing and the Rust's, in one process, and single calls of ours. Run under callgrind by bench/run, which counts what each function
-   named measure_.. costs; the lines that this prints say in order which they were, and lines= how many the listing has.
+/* Our listing by calls and the Rust's two, in one process, and single calls of ours. Run under callgrind by bench/run, which counts what
+   each function named measure_.. costs; the lines that this prints say in order which they were, and lines= how many the listing has.
 
      bench INPUT LISTING
+     bench --fair INPUT LISTING   the Rust's listing of the part that we take alone, for its time
 
-   INPUT is a file of the listing program's form, and the listing is written to LISTING. Exit status: 0, or 1 where the two listings differ,
+   INPUT is a file of the listing program's form, and the listing is written to LISTING. Exit status: 0, or 1 where the listings differ,
    or 2 where a file cannot be read or written. */
 #include <sys/types.h>
 #include "listing.h"
 
-#define ROOM (1 << 22) /* bytes of a listing */
+#define ROOM (1 << 27) /* bytes of a listing */
 #define MEASURED __attribute__((noinline))
 
 /* liboracle.a */
-size_t rust_listing(struct bytes tables, struct bytes strings, struct bytes blob, uint8_t *text, size_t room);
-struct bytes rust_block(struct bytes tables, struct bytes strings, struct bytes blob);
-size_t rust_values(struct bytes block);
+typedef size_t rust_listing(struct bytes tables, struct bytes strings, struct bytes blob, uint8_t *text, size_t room);
+rust_listing rust_fields; /* the part that we take, nothing freed: the figure that counts */
+rust_listing rust_values; /* by way of all its values, which it frees */
 
 /* Rust's HashMap takes its keys from here: the same in every run, so that the counts are. */
 ssize_t getrandom(void *to, size_t n, unsigned flags) {
@@ -29,11 +30,11 @@ static struct input in;
 
 /* ---- what is measured */
 
-size_t measure_rust(void) MEASURED;
-size_t measure_rust(void) { return rust_listing(in.tables, in.strings, in.blob, rust_text, ROOM); }
+size_t measure_fair(void) MEASURED;
+size_t measure_fair(void) { return rust_fields(in.tables, in.strings, in.blob, rust_text, ROOM); }
 
-size_t measure_values(struct bytes block) MEASURED;
-size_t measure_values(struct bytes block) { return rust_values(block); }
+size_t measure_values(void) MEASURED;
+size_t measure_values(void) { return rust_values(in.tables, in.strings, in.blob, rust_text, ROOM); }
 
 void measure_listing(struct listing *listing) MEASURED;
 void measure_listing(struct listing *listing) { list(listing); }
@@ -43,21 +44,24 @@ dn_reply measure_call(int call, const uint32_t *r, struct buffer buffer) { retur
 
 /* ---- the order of it */
 
-static size_t both_listings(void) {
+static void compare(size_t length, const struct listing *ours) {
+    if (length == ours->length && !memcmp(rust_text, our_text, length)) return;
+    fprintf(stderr, "bench: the listings differ\n");
+    exit(1);
+}
+
+/* The Rust's are made once before, so that nothing is done for the first time. */
+static size_t all_listings(void) {
     struct listing listing = { &in, our_text, 0, ROOM };
-    struct bytes block = rust_block(in.tables, in.strings, in.blob);
-    rust_listing(in.tables, in.strings, in.blob, rust_text, ROOM); /* once before, so that nothing is done for the first time */
-    printf("rust\n");
-    size_t length = measure_rust();
-    printf("values\n");
-    measure_values(block);
     printf("calls\n");
     measure_listing(&listing);
-    if (length != listing.length || memcmp(rust_text, our_text, length)) {
-        fprintf(stderr, "bench: the listings differ\n");
-        exit(1);
-    }
-    return length;
+    rust_fields(in.tables, in.strings, in.blob, rust_text, ROOM);
+    printf("fair\n");
+    compare(measure_fair(), &listing);
+    rust_values(in.tables, in.strings, in.blob, rust_text, ROOM);
+    printf("values\n");
+    compare(measure_values(), &listing);
+    return listing.length;
 }
 
 /* The first or the last numbers that a call takes, from a depth on; 0 if there are none. */
@@ -83,18 +87,26 @@ static void single_calls(void) {
         }
 }
 
-int main(int argc, char **argv) {
-    static uint8_t data[MOST + 1];
-    FILE *file = argc == 3 ? fopen(argv[1], "rb") : 0, *out = argc == 3 ? fopen(argv[2], "wb") : 0;
-    size_t n = file ? fread(data, 1, sizeof data, file) : 0;
-    if (!out || !open_input(data, n, &in)) {
-        fprintf(stderr, "usage: bench INPUT LISTING\n");
-        return 2;
-    }
-    size_t length = both_listings();
-    single_calls();
+static size_t count_lines(size_t length) {
     size_t lines = 0;
     for (size_t i = 0; i < length; i++) lines += our_text[i] == '\n';
-    printf("lines=%zu\n", lines);
-    return fwrite(our_text, 1, length, out) == length && !fclose(out) ? 0 : 2;
+    return lines;
+}
+
+int main(int argc, char **argv) {
+    static uint8_t data[MOST + 1];
+    int fair = argc == 4 && !strcmp(argv[1], "--fair");
+    char **paths = argv + (fair ? 2 : 1);
+    FILE *file = fair || argc == 3 ? fopen(paths[0], "rb") : 0, *out = file ? fopen(paths[1], "wb") : 0;
+    size_t n = out ? fread(data, 1, sizeof data, file) : 0;
+    if (!out || !open_input(data, n, &in)) {
+        fprintf(stderr, "usage: bench [--fair] INPUT LISTING\n");
+        return 2;
+    }
+    size_t length = fair ? measure_fair() : all_listings();
+    if (!fair) {
+        single_calls();
+        printf("lines=%zu\n", count_lines(length));
+    }
+    return fwrite(fair ? (char *)rust_text : our_text, 1, length, out) == length && !fclose(out) ? 0 : 2;
 }
