@@ -2,7 +2,7 @@
    each function named measure_.. costs; the lines that this prints say in order which they were, and lines= how many the listing has.
 
      bench INPUT LISTING
-     bench --fair INPUT LISTING   the Rust's listing of the part that we take alone, for its time
+     bench TIMES INPUT LISTING   makes the Rust's listing of the part that we take alone, so many times, for bench/growth.py to take the time
 
    INPUT is a file of the listing program's form, and the listing is written to LISTING. Exit status: 0, or 1 where the listings differ,
    or 2 where a file cannot be read or written. */
@@ -87,26 +87,28 @@ static void single_calls(void) {
         }
 }
 
-static size_t count_lines(size_t length) {
+static void print_lines(size_t length) {
     size_t lines = 0;
     for (size_t i = 0; i < length; i++) lines += our_text[i] == '\n';
-    return lines;
+    printf("lines=%zu\n", lines);
+}
+
+static size_t fair_listings(int times) {
+    size_t length = 0;
+    while (times-- > 0) length = measure_fair();
+    return length;
 }
 
 int main(int argc, char **argv) {
     static uint8_t data[MOST + 1];
-    int fair = argc == 4 && !strcmp(argv[1], "--fair");
-    char **paths = argv + (fair ? 2 : 1);
-    FILE *file = fair || argc == 3 ? fopen(paths[0], "rb") : 0, *out = file ? fopen(paths[1], "wb") : 0;
+    int given = argc == 3 || argc == 4, times = argc == 4 ? atoi(argv[1]) : 0;
+    FILE *file = given ? fopen(argv[argc - 2], "rb") : 0, *out = file ? fopen(argv[argc - 1], "wb") : 0;
     size_t n = out ? fread(data, 1, sizeof data, file) : 0;
     if (!out || !open_input(data, n, &in)) {
-        fprintf(stderr, "usage: bench [--fair] INPUT LISTING\n");
+        fprintf(stderr, "usage: bench [TIMES] INPUT LISTING\n");
         return 2;
     }
-    size_t length = fair ? measure_fair() : all_listings();
-    if (!fair) {
-        single_calls();
-        printf("lines=%zu\n", count_lines(length));
-    }
-    return fwrite(fair ? (char *)rust_text : our_text, 1, length, out) == length && !fclose(out) ? 0 : 2;
+    size_t length = times ? fair_listings(times) : all_listings();
+    if (!times) single_calls(), print_lines(length);
+    return fwrite(times ? (char *)rust_text : our_text, 1, length, out) == length && !fclose(out) ? 0 : 2;
 }

@@ -1,18 +1,19 @@
 """Inputs whose listing takes us the square of what it takes the Rust, each also with half the lines, and what both take.
 
-They take too long for callgrind, so it is the time that is measured, as user time of a process: what the system does to read, to write and
-to give memory does not count here either. A process that is done sooner is run again, for a second in all, and the mean is taken."""
+They take too long for callgrind, so it is the processor's time that is measured. For the Rust it is user time, of as many listings in one
+process as make it long enough to be measured: to give memory takes the system longer, and is not counted. For the program it is the time
+of a process with what the system does, the least of three where it is short. So it is not in our favour."""
 
 import os
 import resource
 import subprocess
-import time
 
 from archive import fail
 from assembly import INTERFACE_IMPL, METHOD_DEF, TYPE_DEF, TYPE_SPEC, Assembly, bundle
 from dice import Dice, shortest
 
-LONG_ENOUGH = 1  # seconds
+LONG = 1  # second
+ENOUGH = 2_000_000  # lines, for the Rust
 NO_CLASS = [0] * 6  # row 1 of TypeDef
 FIRST_SPEC = 1 << 2 | 2  # row 1 of TypeSpec, as TypeDefOrRef
 NAMED_SPEC = b"\x12" + shortest(FIRST_SPEC)
@@ -71,15 +72,24 @@ def all_inputs():
 
 # What they take.
 
-def user_seconds(command, given, to):
-    """Nothing else is to be started meanwhile."""
-    times, begun, before = 0, time.monotonic(), resource.getrusage(resource.RUSAGE_CHILDREN).ru_utime
-    while times == 0 or time.monotonic() - begun < LONG_ENOUGH:
-        with open(given, "rb") as source, open(to, "wb") as out:
-            if subprocess.run(command, stdin=source, stdout=out, check=False).returncode:
-                fail("%s cannot list %s" % (command[0], given))
-        times += 1
-    return (resource.getrusage(resource.RUSAGE_CHILDREN).ru_utime - before) / times
+def seconds(command, given, to):
+    """User and system time of a process. Nothing else is to be started meanwhile."""
+    before = resource.getrusage(resource.RUSAGE_CHILDREN)
+    with open(given, "rb") as source, open(to, "wb") as out:
+        if subprocess.run(command, stdin=source, stdout=out, check=False).returncode:
+            fail("%s cannot list %s" % (command[0], given))
+    after = resource.getrusage(resource.RUSAGE_CHILDREN)
+    return after.ru_utime - before.ru_utime, after.ru_stime - before.ru_stime
+
+
+def listing_seconds(program, given, to):
+    first = sum(seconds([program], given, to))
+    return first if first > LONG else min(first, *(sum(seconds([program], given, to)) for _ in range(2)))
+
+
+def rust_seconds(bench, lines, given, to):
+    times = max(1, ENOUGH // lines)
+    return seconds([bench, str(times), given, to], given, os.devnull)[0] / times
 
 
 def contents(path):
@@ -95,10 +105,11 @@ class Timed:
         given, listing, rust_listing = (os.path.join(folder, word + ".growth") for word in ("input", "listing", "rust"))
         with open(given, "wb") as file:
             file.write(case)
-        self.listing = user_seconds([program], given, listing)
-        self.fair = user_seconds([bench, "--fair", given, rust_listing], given, os.devnull)
+        self.listing = listing_seconds(program, given, listing)
         text = contents(listing)
-        self.lines, self.differs = text.count(b"\n"), text != contents(rust_listing)
+        self.lines = text.count(b"\n")
+        self.fair = rust_seconds(bench, self.lines, given, rust_listing)
+        self.differs = text != contents(rust_listing)
 
 
 def print_times(all_timed):
