@@ -2,7 +2,7 @@
    each function named measure_.. costs; the lines that this prints say in order which they were, and lines= how many the listing has.
 
      bench INPUT LISTING
-     bench TIMES INPUT LISTING   makes the Rust's listing of the part that we take alone, so many times, for bench/growth.py to take the time
+     bench TIMES INPUT LISTING   makes only the Rust's listing of the part that we take, so many times, for bench/growth.py
 
    INPUT is a file of the listing program's form, and the listing is written to LISTING. Exit status: 0, or 1 where the listings differ,
    or 2 where a file cannot be read or written. */

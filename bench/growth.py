@@ -1,8 +1,8 @@
 """Inputs whose listing takes us the square of what it takes the Rust, each also with half the lines, and what both take.
 
-They take too long for callgrind, so it is the processor's time that is measured. For the Rust it is user time, of as many listings in one
-process as make it long enough to be measured: to give memory takes the system longer, and is not counted. For the program it is the time
-of a process with what the system does, the least of three where it is short. So it is not in our favour."""
+They take too long for callgrind, so it is the processor's time that is measured, the least of three where it is short. For the Rust it is
+user time, of as many listings in one process as make it long enough: to give memory takes the system longer, and is not counted. For the
+program it is the time of a process with what the system does. So it is not in our favour."""
 
 import os
 import resource
@@ -83,13 +83,17 @@ def seconds(command, given, to):
 
 
 def listing_seconds(program, given, to):
-    first = sum(seconds([program], given, to))
-    return first if first > LONG else min(first, *(sum(seconds([program], given, to)) for _ in range(2)))
+    return sum(seconds([program], given, to))
 
 
 def rust_seconds(bench, lines, given, to):
     times = max(1, ENOUGH // lines)
     return seconds([bench, str(times), given, to], given, os.devnull)[0] / times
+
+
+def least(measure, *arguments):
+    first = measure(*arguments)
+    return first if first > LONG else min(first, measure(*arguments), measure(*arguments))
 
 
 def contents(path):
@@ -105,10 +109,10 @@ class Timed:
         given, listing, rust_listing = (os.path.join(folder, word + ".growth") for word in ("input", "listing", "rust"))
         with open(given, "wb") as file:
             file.write(case)
-        self.listing = listing_seconds(program, given, listing)
+        self.listing = least(listing_seconds, program, given, listing)
         text = contents(listing)
         self.lines = text.count(b"\n")
-        self.fair = rust_seconds(bench, self.lines, given, rust_listing)
+        self.fair = least(rust_seconds, bench, self.lines, given, rust_listing)
         self.differs = text != contents(rust_listing)
 
 
