@@ -1,5 +1,6 @@
 """What the program call_vectors reads: blocks of three streams and the answers of the public calls, made of the oracle's record."""
 
+import os
 import sys
 
 from asking import SECONDS, Oracle, streams
@@ -181,3 +182,13 @@ def block(name, streams, lines):
 def verdict(name, agreed):
     """What the program writes of a block all of whose answers agree."""
     return "ok    %s: %d agreed, 0 differed\n" % (name, agreed)
+
+
+def verdicts_of_wrong(crate):
+    """What the program of a crate writes of its file `wrong`, which is made by hand: that all its answers differ."""
+    with open(os.path.join(crate, "data", "wrong"), newline="\n") as file:
+        blocks = file.read().split("@ ")[1:]
+    for name, _, _, _, *lines in (block.splitlines() for block in blocks):
+        wrong = [line for line in lines if not line.startswith("#")]
+        yield from ("FAIL  %s\n" % line for line in wrong)
+        yield "FAIL  %s: 0 agreed, %d differed\n" % (name, len(wrong))

@@ -1,4 +1,4 @@
-"""Inputs whose answers are known beforehand from document 01, for `check` and `record_listings`."""
+"""Inputs whose answers are known beforehand from document 01, for `check`, `record_listings` and `wrong_cases`."""
 
 from assembly import bundle
 
@@ -13,6 +13,12 @@ def header(counts):
 def only(tables):
     """An input with empty heaps."""
     return bundle(tables, b"", b"")
+
+
+def extents(stop, known):
+    """The text of a walk that stops there: `START SIZE ROWS` of the kinds that are known, zeros of the others."""
+    lines = ["%d %s\n" % (kind, known.get(kind, "0 0 0")) for kind in range(64)]
+    return "".join(lines) + "stop=%d\n" % stop
 
 
 WHOLE = bundle(bytes.fromhex("00000000 02 00 00 01 0400000000000000 0000000000000000 02000000" + 14 * "00"

@@ -1,4 +1,5 @@
-// Replays recorded answers of the public calls from the file `cases`: data/cases holds what tests/oracle/record_calls writes. What
+// Replays recorded answers of the public calls from the file `cases`: data/cases holds what tests/oracle/record_calls writes; then, in
+// the same way, answers that are wrong on purpose from the file `wrong`, so that a program that finds no difference is found out. What
 // stands before the first `@` is passed over; each `@` begins a block: a line with its name, the lines `tables HEX`, `strings HEX` and
 // `blob HEX`, with `-` for an empty stream, then a line for each answer (see answers.rt). Lines that are empty or begin with `#` are
 // passed over. Each answer that differs is written as `FAIL` and its line; each block as `ok` or `FAIL`, its name and its answers.
@@ -117,10 +118,10 @@ fn file_buffer() -> [u8; 1_048_576] {
     [0; 1_048_576]
 }
 
-fn main() {
-    let file = os::open_read(b"cases");
+fn run_file(path: &[u8]) {
+    let file = os::open_read(path);
     if file < 0 {
-        os::fail(b"cases");
+        os::fail(path);
         return;
     }
     let mut space = file_buffer();
@@ -130,4 +131,9 @@ fn main() {
         write(b"FAIL the file does not fit\n");
     }
     run_blocks(numbers::cut(&space, 0, n));
+}
+
+fn main() {
+    run_file(b"cases");
+    run_file(b"wrong");
 }

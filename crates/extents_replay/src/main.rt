@@ -1,6 +1,7 @@
 // Replays recorded answers of the Rust from the file `cases`, as tests/oracle/record writes them: for each case the lengths of the
-// input and of the expected text, 4 bytes each, little-endian; the input; the text. Names the first ten cases that differ, counted
-// from 0, and ends with how many agreed and how many differed.
+// input and of the expected text, 4 bytes each, little-endian; the input; the text. Then, in the same way, the file `wrong`, whose texts
+// are wrong on purpose (tests/oracle/wrong_cases). For each file its name is written, then the first ten cases that differ, counted
+// from 0, and how many agreed and how many differed.
 ghost use Prim.Native.Nat.{_≤_};
 
 // What became of a case.
@@ -88,12 +89,19 @@ fn replay(file: i32) {
     write_counts(agreed, differed);
 }
 
-fn main() {
-    let file = os::open_read(b"cases");
+fn replay_file(path: &[u8]) {
+    let file = os::open_read(path);
     if file < 0 {
-        os::fail(b"cases");
+        os::fail(path);
         return;
     }
+    write(path);
+    write(b":\n");
     replay(file);
     libc::close(file);
+}
+
+fn main() {
+    replay_file(b"cases");
+    replay_file(b"wrong");
 }

@@ -1,4 +1,5 @@
-// Renders types of signatures from the file `cases` and compares: data/cases holds what tests/oracle/type_cases writes. What stands before
+// Renders types of signatures from the file `cases` and compares: data/cases holds what tests/oracle/type_cases writes; then, in the same
+// way, those of the file `wrong`, which are wrong on purpose, so that a program that finds no difference is found out. What stands before
 // the first `@` is passed over; each `@` begins a block: a line with its name, the lines `tables HEX`, `strings HEX` and `blob HEX`,
 // with `-` for an empty stream, then a line for each type (see types.rt). Lines that are empty or begin with `#` are passed over. Each
 // type that differs is written as `FAIL` and its line; each block as `ok` or `FAIL`, its name and its types.
@@ -114,10 +115,10 @@ fn file_buffer() -> [u8; 1_048_576] {
     [0; 1_048_576]
 }
 
-fn main() {
-    let file = os::open_read(b"cases");
+fn run_file(path: &[u8]) {
+    let file = os::open_read(path);
     if file < 0 {
-        os::fail(b"cases");
+        os::fail(path);
         return;
     }
     let mut space = file_buffer();
@@ -127,4 +128,9 @@ fn main() {
         write(b"FAIL the file does not fit\n");
     }
     run_blocks(numbers::cut(&space, 0, n));
+}
+
+fn main() {
+    run_file(b"cases");
+    run_file(b"wrong");
 }

@@ -1,7 +1,8 @@
-// Runs the cases of two files, a line each: data/cases, which holds document 01's "Bytes to try", the standard's own examples and the
-// edges beside them; and data/recorded, which holds answers of the Rust. A line is `KIND BYTES NUMBER = EXPECTED`: the bytes in hex,
-// `-` for none. Lines that are empty or begin with `#` are passed over. A case that fails is written as `WRONG`, its line and what came;
-// one that agrees as `ok` and its line. Of the recorded ones that agree only the number is written.
+// Runs the cases of three files, a line each: data/cases, which holds document 01's "Bytes to try", the standard's own examples and the
+// edges beside them; data/recorded, which holds answers of the Rust; and data/wrong, whose answers are wrong on purpose, so that a program
+// that finds no difference is found out. A line is `KIND BYTES NUMBER = EXPECTED`: the bytes in hex, `-` for none. Lines that are empty or
+// begin with `#` are passed over. A case that fails is written as `WRONG`, its line and what came; one that agrees as `ok` and its line.
+// Of the recorded ones that agree only the number is written.
 ghost use Prim.Native.Nat.{_≤_};
 
 mod answers;
@@ -98,4 +99,6 @@ fn main() {
     let n = buffers::push_decimal(&mut space, 0, agreed);
     write(numbers::cut(&space, 0, n));
     write(b" recorded answers of the Rust agree\n");
+    write(b"wrong on purpose:\n");
+    run_file(b"wrong", true);
 }
