@@ -5,9 +5,10 @@
  *     cc -std=c11 -Iinclude program.c target/staticlib/libdotnet_c.a
  *
  * Three streams are lent to a call: the tables stream (II.24.2.6), the strings heap (II.24.2.3) and the blob heap (II.24.2.4), each as a
- * pointer and a length. An absent heap is one of length 0. No pointer is null, also where its length is 0. The streams may be any bytes
- * and may overlap one another; a name buffer overlaps nothing else. Nothing may write to a stream while a call runs. A call keeps nothing:
- * it writes to its name buffer and to nothing else, allocates nothing, and may run in many threads at once.
+ * pointer and a length. An absent heap is one of length 0. A pointer may be null where its length is 0, also that of the tables stream
+ * or of a name buffer. The streams may be any bytes and may overlap one another; a name buffer overlaps nothing else. Nothing may write
+ * to a stream while a call runs. A call keeps nothing: it writes to its name buffer and to nothing else, allocates nothing, and may run
+ * in many threads at once.
  *
  * Classes, methods, generic parameters, base types and parameters are meant by their place, from 0: a class in the record, a method,
  * generic parameter or base type in its class, a generic parameter or parameter of a method in its method.

@@ -1,10 +1,12 @@
 /* The calls of include/dotnet_tables.h, linked as a C program links them, against recorded answers of the Rust:
 
-     replay CALLS WALKS
+     replay CALLS WRONG_CALLS WALKS WRONG_WALKS
 
-   CALLS is crates/call_vectors/data/cases and WALKS crates/extents_replay/data/cases; those crates' src/main.rt say their forms. A name is asked
-   for in buffers of several lengths, full of 0xAA before, and every byte is looked at afterwards. Exit status: 0 all agree, 1 some answer
-   differs, 2 a file cannot be read. */
+   CALLS is crates/call_vectors/data/cases and WALKS crates/extents_replay/data/cases; those crates' src/main.rt say their forms. The files
+   `wrong` beside them hold answers that are wrong on purpose: each must differ. A name is asked for in buffers of several lengths, full of
+   0xAA before, and every byte is looked at afterwards. Every call is also asked with null pointers of length 0 for each choice of its
+   streams and its buffer, which must answer as other pointers of length 0 do. Exit status: 0 all is as it should be, 1 something is not,
+   2 a file cannot be read. */
 #include <stdio.h>
 #include <stdlib.h>
 #include <string.h>
@@ -15,8 +17,12 @@ typedef struct bytes {
     size_t len;
 } bytes;
 
+enum { KINDS = 64 }; /* of tables */
+enum { SHOWN = 10 }; /* lines that are printed, of those that are not as they should be */
+
 static bytes tables, strings, blob;
 static size_t agreed, differed;
+static int wrong; /* whether what is replayed is wrong on purpose */
 
 #define STREAMS tables.at, tables.len, strings.at, strings.len, blob.at, blob.len
 
@@ -95,25 +101,69 @@ static int name_agrees(const char *call, const uint32_t *numbers, size_t refusal
     return well;
 }
 
-/* `CALL NUMBERS = ANSWER`; an answer is a number, a name in hex, or `!` and a refusal. */
-static int answer_agrees(const char *line) {
+typedef struct question {
     char call[64];
-    uint32_t numbers[3] = {0, 0, 0};
-    const char *answer = strchr(line, '=');
-    dn_reply reply;
-    if (!answer || sscanf(line, "%63s", call) != 1) return 0;
-    answer += answer[1] == ' ' ? 2 : 1;
-    const char *at = line + strlen(call);
-    for (int i = 0; i < 3 && at[1] != '='; i++) numbers[i] = (uint32_t)strtoul(at, (char **)&at, 10);
-    size_t refusal = *answer == '!' ? strtoul(answer + 1, NULL, 10) : 0;
-    if (strstr(call, "_name") || strstr(call, "_type")) return name_agrees(call, numbers, refusal, answer);
-    size_t value = refusal ? 0 : strtoul(answer, NULL, 10);
-    return ask(call, numbers, NULL, 0, &reply) && reply.value == value && reply.refusal == refusal;
+    uint32_t numbers[3];
+} question;
+
+/* Reads `CALL NUMBERS` from a line that goes on with `= ANSWER`. */
+static question question_in(const char *line) {
+    question q = {"", {0, 0, 0}};
+    if (sscanf(line, "%63s", q.call) != 1) return q;
+    const char *at = line + strlen(q.call);
+    for (int i = 0; i < 3 && at[1] != '='; i++) q.numbers[i] = (uint32_t)strtoul(at, (char **)&at, 10);
+    return q;
 }
 
-static void tally(int well, const char *what) {
-    if (well) agreed++;
-    else if (differed++ < 10) printf("FAIL  %s\n", what);
+/* `CALL NUMBERS = ANSWER`; an answer is a number, a name in hex, or `!` and a refusal. */
+static int answer_agrees(const char *line) {
+    question q = question_in(line);
+    const char *answer = strchr(line, '=');
+    dn_reply reply;
+    answer += answer[1] == ' ' ? 2 : 1;
+    size_t refusal = *answer == '!' ? strtoul(answer + 1, NULL, 10) : 0;
+    if (strstr(q.call, "_name") || strstr(q.call, "_type")) return name_agrees(q.call, q.numbers, refusal, answer);
+    size_t value = refusal ? 0 : strtoul(answer, NULL, 10);
+    return ask(q.call, q.numbers, NULL, 0, &reply) && reply.value == value && reply.refusal == refusal;
+}
+
+/* The reply where what `empty` names has length 0 and is at `spot`: bit 0 the tables, 1 the strings, 2 the blob, 3 the buffer. */
+static dn_reply ask_with_empty(const question *q, unsigned empty, uint8_t *spot) {
+    bytes kept[] = {tables, strings, blob}, none = {spot, 0};
+    uint8_t room[16];
+    dn_reply reply = {0, 0};
+    if (empty & 1) tables = none;
+    if (empty & 2) strings = none;
+    if (empty & 4) blob = none;
+    if (empty & 8) ask(q->call, q->numbers, spot, 0, &reply);
+    else ask(q->call, q->numbers, room, sizeof room, &reply);
+    tables = kept[0], strings = kept[1], blob = kept[2];
+    return reply;
+}
+
+/* Whether null pointers of length 0 are answered as other pointers of length 0 are. */
+static int nulls_agree(const char *line) {
+    question q = question_in(line);
+    uint8_t spot = 0xAA;
+    for (unsigned empty = 1; empty < 16; empty++) {
+        dn_reply by_null = ask_with_empty(&q, empty, NULL), by_spot = ask_with_empty(&q, empty, &spot);
+        if (by_null.value != by_spot.value || by_null.refusal != by_spot.refusal || spot != 0xAA) return 0;
+    }
+    return 1;
+}
+
+/* Counts an answer, and prints it where it is not as it should be. */
+static void tally(int agrees, const char *what) {
+    size_t count = agrees ? ++agreed : ++differed;
+    if (agrees == wrong && count <= SHOWN) printf("FAIL  %s\n", what);
+}
+
+/* Prints the counts, and answers whether there was something and all was as it should be. */
+static int report(const char *what) {
+    printf("%s%s: %zu agreed, %zu differed\n", what, wrong ? ", wrong on purpose" : "", agreed, differed);
+    int well = wrong ? differed && !agreed : agreed && !differed;
+    agreed = differed = 0;
+    return well;
 }
 
 static void stream_of(const char *line, const char *key, bytes *stream) {
@@ -123,26 +173,39 @@ static void stream_of(const char *line, const char *key, bytes *stream) {
     }
 }
 
-static void replay_calls(bytes file) {
+static void replay_lines(bytes file, int (*agrees)(const char *)) {
     for (char *line = strtok((char *)file.at, "\n"); line; line = strtok(NULL, "\n")) {
         stream_of(line, "tables", &tables), stream_of(line, "strings", &strings), stream_of(line, "blob", &blob);
-        if (*line != '#' && *line != '@' && strchr(line, '=')) tally(answer_agrees(line), line);
+        if (*line != '#' && *line != '@' && strchr(line, '=')) tally(agrees(line), line);
     }
 }
 
-/* The lines `KIND START SIZE ROWS` and `stop=KIND`, or `refused=NUMBER`. */
+static void replay_calls(bytes file) { replay_lines(file, answer_agrees); }
+
+static void replay_nulls(bytes file) { replay_lines(file, nulls_agree); }
+
+static int extent_is(uint32_t kind, size_t start, size_t size, size_t rows) {
+    dn_extent e = dn_walk_extent(tables.at, tables.len, kind);
+    return e.start == start && e.size == size && e.rows == rows;
+}
+
+static int no_extent_from(uint32_t kind) {
+    for (; kind <= KINDS; kind++)
+        if (!extent_is(kind, 0, 0, 0)) return 0;
+    return 1;
+}
+
+/* A line `KIND START SIZE ROWS` for each kind, then `stop=KIND`; or `refused=NUMBER` alone. */
 static int walk_agrees(const char *text) {
     size_t kind, start, size, rows, number;
     int used;
     dn_reply stop = dn_walk_stop(tables.at, tables.len);
-    for (; sscanf(text, "%zu %zu %zu %zu %n", &kind, &start, &size, &rows, &used) == 4; text += used) {
-        dn_extent e = dn_walk_extent(tables.at, tables.len, (uint32_t)kind);
-        if (e.start != start || e.size != size || e.rows != rows) return 0;
+    if (sscanf(text, "refused=%zu", &number) == 1) return stop.refusal == number && !stop.value && no_extent_from(0);
+    for (uint32_t k = 0; k < KINDS; k++, text += used) {
+        if (sscanf(text, "%zu %zu %zu %zu %n", &kind, &start, &size, &rows, &used) != 4) return 0;
+        if (kind != k || !extent_is(k, start, size, rows)) return 0;
     }
-    dn_extent none = dn_walk_extent(tables.at, tables.len, 64);
-    if (none.start || none.size || none.rows) return 0;
-    if (sscanf(text, "refused=%zu", &number) == 1) return stop.refusal == number && !stop.value;
-    return sscanf(text, "stop=%zu", &number) == 1 && stop.value == number && !stop.refusal;
+    return sscanf(text, "stop=%zu", &number) == 1 && stop.value == number && !stop.refusal && no_extent_from(KINDS);
 }
 
 static uint32_t word(const uint8_t *at) {
@@ -180,15 +243,35 @@ static void lookups(void) {
     tally(!other.start && !other.len && other.refusal == DN_NOT_FOUND, "a heap that there is not");
 }
 
+/* What takes no class: by null pointers of length 0 there is nothing. */
+static void nulls(void) {
+    dn_reply stop = dn_walk_stop(NULL, 0);
+    dn_extent extent = dn_walk_extent(NULL, 0, 2);
+    tally(!stop.value && stop.refusal == DN_SHORT_HEADER, "the walk of a null pointer");
+    tally(!extent.start && !extent.size && !extent.rows, "an extent of a null pointer");
+    for (uint32_t which = DN_STRINGS; which <= DN_BLOBS; which++) {
+        dn_part part = dn_lookup(NULL, 0, NULL, 0, which, 0);
+        tally(!part.start && !part.len && part.refusal == DN_NOT_FOUND, "a heap that is a null pointer");
+    }
+}
+
+static int replay(const char *path, void (*each)(bytes), const char *what, int is_wrong) {
+    bytes file = read_file(path);
+    wrong = is_wrong;
+    each(file);
+    free(file.at);
+    return report(what);
+}
+
 int main(int count, char **words) {
-    if (count != 3) return fprintf(stderr, "usage: replay CALLS WALKS\n"), 2;
-    bytes calls = read_file(words[1]), walks = read_file(words[2]);
-    replay_calls(calls);
-    printf("calls: %zu agreed, %zu differed\n", agreed, differed);
-    size_t differed_before = differed;
-    agreed = differed = 0;
-    replay_walks(walks), lookups();
-    printf("walks and lookups: %zu agreed, %zu differed\n", agreed, differed);
-    free(calls.at), free(walks.at), free(tables.at), free(strings.at), free(blob.at);
-    return differed_before || differed ? 1 : 0;
+    if (count != 5) return fprintf(stderr, "usage: replay CALLS WRONG_CALLS WALKS WRONG_WALKS\n"), 2;
+    lookups(), nulls();
+    int well = report("lookups, and what takes no class by null pointers");
+    well &= replay(words[1], replay_calls, "calls", 0);
+    well &= replay(words[2], replay_calls, "calls", 1);
+    well &= replay(words[1], replay_nulls, "calls by null pointers", 0);
+    well &= replay(words[3], replay_walks, "walks", 0);
+    well &= replay(words[4], replay_walks, "walks", 1);
+    free(tables.at), free(strings.at), free(blob.at);
+    return well ? 0 : 1;
 }

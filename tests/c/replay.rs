@@ -1,8 +1,10 @@
-//! The same calls as a Rust program links them, against the recorded answers of crates/call_vectors/data/cases:
+//! The same calls as a Rust program links them, against the recorded answers of crates/call_vectors/data/cases, and against those of the
+//! file `wrong` beside it, which are wrong on purpose, so that each must differ:
 //!
-//!     replay CALLS
+//!     replay CALLS WRONG_CALLS
 //!
-//! A name is asked for in a buffer of its length and in one that is a byte longer. Exit status: 0 all agree, 1 some answer differs.
+//! A name is asked for in a buffer of its length and in one that is a byte longer. Exit status: 0 all is as it should be, 1 something is
+//! not.
 use std::{env, fs, process};
 
 #[repr(C)]
@@ -73,24 +75,29 @@ fn agrees(line: &str, streams: &[Vec<u8>; 3]) -> bool {
     })
 }
 
-fn replay() -> bool {
-    let text = fs::read_to_string(env::args().nth(1).expect("usage: replay CALLS")).expect("the file can be read");
+/// Whether there are answers and all are as they should be.
+fn replay(path: &str, wrong: bool) -> bool {
+    let text = fs::read_to_string(path).expect("the file can be read");
     let mut streams: [Vec<u8>; 3] = Default::default();
     let (mut agreed, mut differed) = (0, 0);
     for line in text.lines().filter(|line| !line.starts_with(['#', '@']) && !line.is_empty()) {
         if let Some(at) = ["tables ", "strings ", "blob "].iter().position(|key| line.starts_with(key)) {
             streams[at] = from_hex(line.split_once(' ').unwrap().1);
-        } else if agrees(line, &streams) {
-            agreed += 1;
-        } else {
-            differed += 1;
+            continue;
+        }
+        let agrees = agrees(line, &streams);
+        *(if agrees { &mut agreed } else { &mut differed }) += 1;
+        if agrees == wrong {
             println!("FAIL  {line}");
         }
     }
-    println!("calls: {agreed} agreed, {differed} differed");
-    differed == 0
+    println!("calls{}: {agreed} agreed, {differed} differed", if wrong { ", wrong on purpose" } else { "" });
+    if wrong { agreed == 0 && differed > 0 } else { agreed > 0 && differed == 0 }
 }
 
 fn main() {
-    process::exit(if replay() { 0 } else { 1 });
+    let paths: Vec<String> = env::args().skip(1).collect();
+    let [calls, wrong_calls] = &paths[..] else { panic!("usage: replay CALLS WRONG_CALLS") };
+    let well = replay(calls, false) & replay(wrong_calls, true);
+    process::exit(if well { 0 } else { 1 });
 }
