@@ -1,8 +1,11 @@
-// Prints where the tables of the input lie: standard input holds the three streams, as document 01's listing program takes them.
+// Prints where the tables of the input lie: standard input holds the three streams, as document 01's listing program takes them. Where
+// the text cannot be written the program says so on standard error.
 fn main() {
     let mut space = [0u8; 65537];
     let n = io::read_full(0, &mut space);
     let mut text = [0u8; 8192];
     let end = extents_text::write_extents(numbers::cut(&space, 0, n), &mut text);
-    io::write_all(1, numbers::cut(&text, 0, end));
+    if !io::write_all(1, numbers::cut(&text, 0, end)) {
+        io::write_all(2, b"extents: cannot write to standard output\n");
+    }
 }
