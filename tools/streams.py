@@ -4,6 +4,7 @@ import struct
 
 MOST_BYTES = 65536  # of the program's input
 CLI_DIRECTORY = 14
+HEAPS = "#Strings", "#Blob"
 
 
 class Unfit(Exception):
@@ -92,7 +93,13 @@ def streams(data):
     tables = next((name for name in ("#~", "#-") if name in found), None)
     if tables is None:
         raise Unfit("no tables stream: there is neither #~ nor #-, but %s" % (", ".join(map(ascii, found)) or "no stream at all"))
-    return [part(root, *found.get(name, (0, 0)), "the stream " + name, "metadata") for name in (tables, "#Strings", "#Blob")]
+    return [part(root, *found.get(name, (0, 0)), "the stream " + name, "metadata") for name in (tables, *HEAPS)]
+
+
+def absent_heaps(data):
+    """The names of the heaps that are not there."""
+    found = directory(metadata(data))
+    return [name for name in HEAPS if name not in found]
 
 
 def bundle(tables, strings, blob):
