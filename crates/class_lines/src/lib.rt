@@ -30,7 +30,7 @@ fn stop_step(out: &mut [u8], at: usize, reply: Reply) -> Step
         Reply::Is(stop) => {
             let end = lines::push_number(out, at, b"stop=", stop);
             Step {
-                next: cursor_at(Place::Classes, 0, 0, 0),
+                next: cursor_at(Place::Classes, ClassNumber(0), 0, 0),
                 at: end,
             }
         }
@@ -72,7 +72,7 @@ pub fn classes_line(
         at,
         b"classes=",
         reply,
-        cursor_at(Place::Class, 0, 0, 0),
+        cursor_at(Place::Class, ClassNumber(0), 0, 0),
     )
 }
 
@@ -82,17 +82,17 @@ pub fn class_line(
     strings: &[u8],
     blob: &[u8],
     layout: &Layout,
-    class: u32,
+    class: ClassNumber,
     out: &mut [u8],
     at: usize,
 ) -> Step
     requires { ⌜ Laid (now tables) (now layout) ⌝ }
-    ensures { λ r. ⌜ ((m i : ℕ) → Stepped (viewIn (now (tables .entry)) (now (layout .entry)) (now (strings .entry)) (now (blob .entry))) (cursor Class class m i) (now (out .entry)) at (now (out .exit)) r) ⌝ }
+    ensures { λ r. ⌜ ((m i : ℕ) → Stepped (viewIn (now (tables .entry)) (now (layout .entry)) (now (strings .entry)) (now (blob .entry))) (cursor Class (class .0) m i) (now (out .entry)) at (now (out .exit)) r) ⌝ }
 {
     let mut name = [0u8; LONGEST];
-    let reply = write_class_name(&mut name, tables, strings, layout, ClassNumber(class));
+    let reply = write_class_name(&mut name, tables, strings, layout, class);
     let more = cursor_at(Place::Flags, class, 0, 0);
-    let past = cursor_at(Place::Done, 0, 0, 0);
+    let past = lines::done_cursor();
     lines::name_step(out, at, b"class=", reply, &name, more, past)
 }
 
@@ -102,14 +102,14 @@ pub fn flags_line(
     strings: &[u8],
     blob: &[u8],
     layout: &Layout,
-    class: u32,
+    class: ClassNumber,
     out: &mut [u8],
     at: usize,
 ) -> Step
     requires { ⌜ Laid (now tables) (now layout) ⌝ }
-    ensures { λ r. ⌜ ((m i : ℕ) → Stepped (viewIn (now (tables .entry)) (now (layout .entry)) (now (strings .entry)) (now (blob .entry))) (cursor Flags class m i) (now (out .entry)) at (now (out .exit)) r) ⌝ }
+    ensures { λ r. ⌜ ((m i : ℕ) → Stepped (viewIn (now (tables .entry)) (now (layout .entry)) (now (strings .entry)) (now (blob .entry))) (cursor Flags (class .0) m i) (now (out .entry)) at (now (out .exit)) r) ⌝ }
 {
-    let reply = class_flags_of(tables, layout, ClassNumber(class));
+    let reply = class_flags_of(tables, layout, class);
     lines::number_step(
         out,
         at,
@@ -125,16 +125,16 @@ pub fn generic_line(
     strings: &[u8],
     blob: &[u8],
     layout: &Layout,
-    class: u32,
+    class: ClassNumber,
     i: u32,
     out: &mut [u8],
     at: usize,
 ) -> Step
     requires { ⌜ Laid (now tables) (now layout) ⌝ }
-    ensures { λ r. ⌜ ((m : ℕ) → Stepped (viewIn (now (tables .entry)) (now (layout .entry)) (now (strings .entry)) (now (blob .entry))) (cursor Generic class m i) (now (out .entry)) at (now (out .exit)) r) ⌝ }
+    ensures { λ r. ⌜ ((m : ℕ) → Stepped (viewIn (now (tables .entry)) (now (layout .entry)) (now (strings .entry)) (now (blob .entry))) (cursor Generic (class .0) m i) (now (out .entry)) at (now (out .exit)) r) ⌝ }
 {
     let mut name = [0u8; LONGEST];
-    let reply = write_generic_name(&mut name, tables, strings, layout, ClassNumber(class), i);
+    let reply = write_generic_name(&mut name, tables, strings, layout, class, i);
     let more = cursor_at(Place::Generic, class, 0, next_number(i));
     let past = cursor_at(Place::Base, class, 0, 0);
     lines::name_step(out, at, b"generic=", reply, &name, more, past)
@@ -146,24 +146,16 @@ pub fn base_line(
     strings: &[u8],
     blob: &[u8],
     layout: &Layout,
-    class: u32,
+    class: ClassNumber,
     i: u32,
     out: &mut [u8],
     at: usize,
 ) -> Step
     requires { ⌜ Laid (now tables) (now layout) ⌝ }
-    ensures { λ r. ⌜ ((m : ℕ) → Stepped (viewIn (now (tables .entry)) (now (layout .entry)) (now (strings .entry)) (now (blob .entry))) (cursor Base class m i) (now (out .entry)) at (now (out .exit)) r) ⌝ }
+    ensures { λ r. ⌜ ((m : ℕ) → Stepped (viewIn (now (tables .entry)) (now (layout .entry)) (now (strings .entry)) (now (blob .entry))) (cursor Base (class .0) m i) (now (out .entry)) at (now (out .exit)) r) ⌝ }
 {
     let mut name = [0u8; LONGEST];
-    let reply = write_base_name(
-        &mut name,
-        tables,
-        strings,
-        blob,
-        layout,
-        ClassNumber(class),
-        i,
-    );
+    let reply = write_base_name(&mut name, tables, strings, blob, layout, class, i);
     let more = cursor_at(Place::Base, class, 0, next_number(i));
     let past = cursor_at(Place::Method, class, 0, 0);
     lines::name_step(out, at, b"base=", reply, &name, more, past)

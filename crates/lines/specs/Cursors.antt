@@ -17,7 +17,7 @@ use Rattle.lines.specs.declared.Cursor.{Cursor}
 use Rattle.lines.specs.declared.Step.{Step}
 
 abbrev pub cursor : Place → ℕ → ℕ → ℕ → Cursor
-cursor place class method i = record { place = place; class = class; method = method; i = i }
+cursor place class method i = record { place = place; class = record { 0 = class }; method = method; i = i }
 
 abbrev pub first : Cursor
 first = cursor Stop 0 0 0
@@ -71,10 +71,10 @@ placeNext v ParamName c m i = cursor ParamType c m (nextNumber i)
 placeNext v Done c m i = done
 
 unfoldable pub lineAt : View → Cursor → Text
-lineAt v c = placeLine v (c .place) (c .class) (c .method) (c .i)
+lineAt v c = placeLine v (c .place) (c .class .0) (c .method) (c .i)
 
 unfoldable pub nextAt : View → Cursor → Cursor
-nextAt v c = placeNext v (c .place) (c .class) (c .method) (c .i)
+nextAt v c = placeNext v (c .place) (c .class .0) (c .method) (c .i)
 
 -- What a step does with a lent buffer: a line is appended, and the next cursor handed out.
 pub record Went (t : Text) (to : Cursor) (before : List ℕ) (at : ℕ) (after : List ℕ) (s : Step) : Type 0 where

@@ -5,6 +5,7 @@ use buffers::push;
 use buffers::push_decimal;
 use buffers::put;
 use buffers::refusal_number;
+use classes::ClassNumber;
 ghost use mathlib.Core.Path.{_≡_};
 ghost use mathlib.Core.Bool.{cond};
 ghost use mathlib.Core.List.{List, []};
@@ -14,7 +15,7 @@ ghost use Rattle.buffers.specs.Texts.{Text};
 ghost use Rattle.buffers.specs.Writes.{Wrote};
 ghost use Rattle.buffers.specs.Replies.{number, Answer, Named, replySays};
 ghost use Rattle.lines.specs.Lines.{line, longest, numberLine, refusedLine, answerLine, missingLine, nameLine, hasLine};
-ghost use Rattle.lines.specs.Cursors.{cursor, done, nextNumber, Went};
+ghost use Rattle.lines.specs.Cursors.{cursor, first, done, nextNumber, Went};
 
 // What ends a line.
 const LINE_END: u8 = b'\n';
@@ -39,7 +40,7 @@ pub enum Place {
 // Where the listing is: the class, the method and the item that the place is about, from 0.
 pub struct Cursor {
     pub place: Place,
-    pub class: u32,
+    pub class: ClassNumber,
     pub method: u32,
     pub i: u32,
 }
@@ -50,8 +51,8 @@ pub struct Step {
     pub at: usize,
 }
 
-pub fn cursor_at(place: Place, class: u32, method: u32, i: u32) -> Cursor
-    ensures { λ r. ⌜ r ≡ cursor place class method i ⌝ }
+pub fn cursor_at(place: Place, class: ClassNumber, method: u32, i: u32) -> Cursor
+    ensures { λ r. ⌜ r ≡ cursor place (class .0) method i ⌝ }
 {
     Cursor {
         place,
@@ -61,6 +62,20 @@ pub fn cursor_at(place: Place, class: u32, method: u32, i: u32) -> Cursor
     }
 }
 
+// Where a listing begins.
+pub fn first_cursor() -> Cursor
+    ensures { λ r. ⌜ r ≡ first ⌝ }
+{
+    cursor_at(Place::Stop, ClassNumber(0), 0, 0)
+}
+
+// Where it ends.
+pub fn done_cursor() -> Cursor
+    ensures { λ r. ⌜ r ≡ done ⌝ }
+{
+    cursor_at(Place::Done, ClassNumber(0), 0, 0)
+}
+
 pub fn next_number(n: u32) -> u32
     ensures { λ r. ⌜ r ≡ nextNumber n ⌝ }
 {
@@ -68,6 +83,12 @@ pub fn next_number(n: u32) -> u32
         return n + 1;
     }
     n
+}
+
+pub fn next_class(class: ClassNumber) -> ClassNumber
+    ensures { λ r. ⌜ r .0 ≡ nextNumber (class .0) ⌝ }
+{
+    ClassNumber(next_number(class.0))
 }
 
 // No line.
@@ -189,7 +210,7 @@ pub fn push_refused(out: &mut [u8], at: usize, why: Refusal) -> Step
 {
     let end = push_number(out, at, b"refused=", refusal_number(why) as usize);
     Step {
-        next: cursor_at(Place::Done, 0, 0, 0),
+        next: done_cursor(),
         at: end,
     }
 }

@@ -19,7 +19,7 @@ fn write_piece(input: &[u8], from: Cursor) -> Written {
 
 // Every piece, and whether all were written. No listing has as many as the loop has turns.
 fn write_listing(input: &[u8]) -> bool {
-    let mut cursor = listing_text::first_cursor();
+    let mut cursor = lines::first_cursor();
     let mut turns: u64 = 0xFFFF_FFFF_FFFF_FFFF;
     while 0 < turns {
         if listing_text::is_done(cursor) {

@@ -27,14 +27,14 @@ use Rattle.listing_text.specs.Filling.{isDone, Piece, pieceFrom, pieceOf
 
 -- A cursor's step is known by its place.
 pub at-place : (v : View) (c : Cursor) {p : Place} {o o′ : List ℕ} {at : ℕ} {s : Step}
-    → c .place ≡ p → Stepped v (cursor p (c .class) (c .method) (c .i)) o at o′ s → Stepped v c o at o′ s
+    → c .place ≡ p → Stepped v (cursor p (c .class .0) (c .method) (c .i)) o at o′ s → Stepped v c o at o′ s
 unfolding lineAt nextAt
 at-place v c e w = rw e w
 
 -- The same by a view that is equal.
 pub at-view : {v w : View} → v ≡ w → (c : Cursor) {p : Place} {o o′ : List ℕ} {at : ℕ} {s : Step}
-    → c .place ≡ p → Stepped v (cursor p (c .class) (c .method) (c .i)) o at o′ s → Stepped w c o at o′ s
-at-view same c {p} {o} {o′} {at} {s} e g = at-place _ c e (subst (λ v. Stepped v (cursor p (c .class) (c .method) (c .i)) o at o′ s) same g)
+    → c .place ≡ p → Stepped v (cursor p (c .class .0) (c .method) (c .i)) o at o′ s → Stepped w c o at o′ s
+at-view same c {p} {o} {o′} {at} {s} e g = at-place _ c e (subst (λ v. Stepped v (cursor p (c .class .0) (c .method) (c .i)) o at o′ s) same g)
 
 -- One step of a piece.
 either-same : (b : Bool) (p : Piece) → cond b p p ≡ p

@@ -159,7 +159,7 @@ module _ (o : Options) (t strings blob : List ℕ) {why : Refusal} (e : opened o
     pub refused-elsewhere : {next : Cursor} → OneOf others (tagOf the-type (from .place)) → next ≡ done
         → Filled (pieceOf v (length b) from) b b (record { next = next; at = 0 })
     refused-elsewhere h g =
-        rw (elsewhere (length b) (from .place) (from .class) (from .method) (from .i) h mostSteps (omega arith))
+        rw (elsewhere (length b) (from .place) (from .class .0) (from .method) (from .i) h mostSteps (omega arith))
         (record { wrote = wrote-none b 0 0 (omega arith); goes = g })
 
     module _ {b′ : List ℕ} {s : Step} (f : from .place ≡ at.Stop) (w : Went (refusedLine (number why)) done b 0 b′ s) where

@@ -17,16 +17,9 @@ ghost use Rattle.header.specs.declared.Options.{Options as Opts};
 ghost use Rattle.header.specs.declared.Opened.the-variants.{Refused};
 ghost use Rattle.record.specs.View.{View, view};
 ghost use Rattle.rows.specs.Layout.{Laid, viewIn};
-ghost use Rattle.lines.specs.Cursors.{cursor, first, Stepped};
+ghost use Rattle.lines.specs.Cursors.{cursor, Stepped};
 ghost use Rattle.lines.specs.declared.Place.the-variants.{Done};
 ghost use Rattle.listing_text.specs.Filling.{isDone, pieceOf, inputPiece, Filled};
-
-// Where a listing begins.
-pub fn first_cursor() -> Cursor
-    ensures { λ r. ⌜ r ≡ first ⌝ }
-{
-    lines::cursor_at(Place::Stop, 0, 0, 0)
-}
 
 // Whether a listing is at its end.
 pub fn is_done(c: Cursor) -> bool
@@ -41,7 +34,7 @@ fn done_line(out: &mut [u8], at: usize) -> Step
 {
     let end = lines::push_nothing(out, at);
     Step {
-        next: lines::cursor_at(Place::Done, 0, 0, 0),
+        next: lines::done_cursor(),
         at: end,
     }
 }
@@ -145,7 +138,7 @@ fn fill_refused(why: Refusal, from: Cursor, out: &mut [u8]) -> Step
         }
         Place::Done => Step { next: from, at: 0 },
         _ => Step {
-            next: lines::cursor_at(Place::Done, 0, 0, 0),
+            next: lines::done_cursor(),
             at: 0,
         },
     }

@@ -217,4 +217,4 @@ module _ (t strings heap : List ℕ) (bytes : Bytes t) where
 
 pub lines-fit : LinesFit
 unfolding lineAt
-lines-fit tables strings blob c bytes = place-fits tables strings blob bytes (c .place) (c .class) (c .method) (c .i)
+lines-fit tables strings blob c bytes = place-fits tables strings blob bytes (c .place) (c .class .0) (c .method) (c .i)

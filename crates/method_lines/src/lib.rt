@@ -25,18 +25,18 @@ pub fn method_line(
     strings: &[u8],
     blob: &[u8],
     layout: &Layout,
-    class: u32,
+    class: ClassNumber,
     m: u32,
     out: &mut [u8],
     at: usize,
 ) -> Step
     requires { ⌜ Laid (now tables) (now layout) ⌝ }
-    ensures { λ r. ⌜ ((i : ℕ) → Stepped (viewIn (now (tables .entry)) (now (layout .entry)) (now (strings .entry)) (now (blob .entry))) (cursor Method class m i) (now (out .entry)) at (now (out .exit)) r) ⌝ }
+    ensures { λ r. ⌜ ((i : ℕ) → Stepped (viewIn (now (tables .entry)) (now (layout .entry)) (now (strings .entry)) (now (blob .entry))) (cursor Method (class .0) m i) (now (out .entry)) at (now (out .exit)) r) ⌝ }
 {
     let mut name = [0u8; LONGEST];
-    let reply = write_method_name(&mut name, tables, strings, layout, ClassNumber(class), m);
+    let reply = write_method_name(&mut name, tables, strings, layout, class, m);
     let more = cursor_at(Place::MethodFlags, class, m, 0);
-    let past = cursor_at(Place::Class, next_number(class), 0, 0);
+    let past = cursor_at(Place::Class, lines::next_class(class), 0, 0);
     lines::name_step(out, at, b"method=", reply, &name, more, past)
 }
 
@@ -46,15 +46,15 @@ pub fn method_flags_line(
     strings: &[u8],
     blob: &[u8],
     layout: &Layout,
-    class: u32,
+    class: ClassNumber,
     m: u32,
     out: &mut [u8],
     at: usize,
 ) -> Step
     requires { ⌜ Laid (now tables) (now layout) ⌝ }
-    ensures { λ r. ⌜ ((i : ℕ) → Stepped (viewIn (now (tables .entry)) (now (layout .entry)) (now (strings .entry)) (now (blob .entry))) (cursor MethodFlags class m i) (now (out .entry)) at (now (out .exit)) r) ⌝ }
+    ensures { λ r. ⌜ ((i : ℕ) → Stepped (viewIn (now (tables .entry)) (now (layout .entry)) (now (strings .entry)) (now (blob .entry))) (cursor MethodFlags (class .0) m i) (now (out .entry)) at (now (out .exit)) r) ⌝ }
 {
-    let reply = method_flags_of(tables, layout, ClassNumber(class), m);
+    let reply = method_flags_of(tables, layout, class, m);
     lines::number_step(
         out,
         at,
@@ -70,25 +70,17 @@ pub fn method_generic_line(
     strings: &[u8],
     blob: &[u8],
     layout: &Layout,
-    class: u32,
+    class: ClassNumber,
     m: u32,
     i: u32,
     out: &mut [u8],
     at: usize,
 ) -> Step
     requires { ⌜ Laid (now tables) (now layout) ⌝ }
-    ensures { λ r. ⌜ Stepped (viewIn (now (tables .entry)) (now (layout .entry)) (now (strings .entry)) (now (blob .entry))) (cursor MethodGeneric class m i) (now (out .entry)) at (now (out .exit)) r ⌝ }
+    ensures { λ r. ⌜ Stepped (viewIn (now (tables .entry)) (now (layout .entry)) (now (strings .entry)) (now (blob .entry))) (cursor MethodGeneric (class .0) m i) (now (out .entry)) at (now (out .exit)) r ⌝ }
 {
     let mut name = [0u8; LONGEST];
-    let reply = write_method_generic_name(
-        &mut name,
-        tables,
-        strings,
-        layout,
-        ClassNumber(class),
-        m,
-        i,
-    );
+    let reply = write_method_generic_name(&mut name, tables, strings, layout, class, m, i);
     let more = cursor_at(Place::MethodGeneric, class, m, next_number(i));
     let past = cursor_at(Place::Returns, class, m, 0);
     lines::name_step(out, at, b"mgeneric=", reply, &name, more, past)
@@ -100,24 +92,16 @@ pub fn returns_line(
     strings: &[u8],
     blob: &[u8],
     layout: &Layout,
-    class: u32,
+    class: ClassNumber,
     m: u32,
     out: &mut [u8],
     at: usize,
 ) -> Step
     requires { ⌜ Laid (now tables) (now layout) ⌝ }
-    ensures { λ r. ⌜ ((i : ℕ) → Stepped (viewIn (now (tables .entry)) (now (layout .entry)) (now (strings .entry)) (now (blob .entry))) (cursor Returns class m i) (now (out .entry)) at (now (out .exit)) r) ⌝ }
+    ensures { λ r. ⌜ ((i : ℕ) → Stepped (viewIn (now (tables .entry)) (now (layout .entry)) (now (strings .entry)) (now (blob .entry))) (cursor Returns (class .0) m i) (now (out .entry)) at (now (out .exit)) r) ⌝ }
 {
     let mut name = [0u8; LONGEST];
-    let reply = write_return_type_of(
-        &mut name,
-        tables,
-        strings,
-        blob,
-        layout,
-        ClassNumber(class),
-        m,
-    );
+    let reply = write_return_type_of(&mut name, tables, strings, blob, layout, class, m);
     let end = lines::push_name(out, at, b"returns=", reply, &name);
     Step {
         next: cursor_at(Place::ParamType, class, m, 0),
@@ -131,26 +115,17 @@ pub fn param_type_line(
     strings: &[u8],
     blob: &[u8],
     layout: &Layout,
-    class: u32,
+    class: ClassNumber,
     m: u32,
     i: u32,
     out: &mut [u8],
     at: usize,
 ) -> Step
     requires { ⌜ Laid (now tables) (now layout) ⌝ }
-    ensures { λ r. ⌜ Stepped (viewIn (now (tables .entry)) (now (layout .entry)) (now (strings .entry)) (now (blob .entry))) (cursor ParamType class m i) (now (out .entry)) at (now (out .exit)) r ⌝ }
+    ensures { λ r. ⌜ Stepped (viewIn (now (tables .entry)) (now (layout .entry)) (now (strings .entry)) (now (blob .entry))) (cursor ParamType (class .0) m i) (now (out .entry)) at (now (out .exit)) r ⌝ }
 {
     let mut name = [0u8; LONGEST];
-    let reply = write_param_type_of(
-        &mut name,
-        tables,
-        strings,
-        blob,
-        layout,
-        ClassNumber(class),
-        m,
-        i,
-    );
+    let reply = write_param_type_of(&mut name, tables, strings, blob, layout, class, m, i);
     let more = cursor_at(Place::ParamName, class, m, i);
     let past = cursor_at(Place::Method, class, next_number(m), 0);
     lines::name_step(out, at, b"ptype=", reply, &name, more, past)
@@ -162,26 +137,17 @@ pub fn param_name_line(
     strings: &[u8],
     blob: &[u8],
     layout: &Layout,
-    class: u32,
+    class: ClassNumber,
     m: u32,
     i: u32,
     out: &mut [u8],
     at: usize,
 ) -> Step
     requires { ⌜ Laid (now tables) (now layout) ⌝ }
-    ensures { λ r. ⌜ Stepped (viewIn (now (tables .entry)) (now (layout .entry)) (now (strings .entry)) (now (blob .entry))) (cursor ParamName class m i) (now (out .entry)) at (now (out .exit)) r ⌝ }
+    ensures { λ r. ⌜ Stepped (viewIn (now (tables .entry)) (now (layout .entry)) (now (strings .entry)) (now (blob .entry))) (cursor ParamName (class .0) m i) (now (out .entry)) at (now (out .exit)) r ⌝ }
 {
     let mut name = [0u8; LONGEST];
-    let reply = write_param_name_of(
-        &mut name,
-        tables,
-        strings,
-        blob,
-        layout,
-        ClassNumber(class),
-        m,
-        i,
-    );
+    let reply = write_param_name_of(&mut name, tables, strings, blob, layout, class, m, i);
     let end = lines::push_name(out, at, b"pname=", reply, &name);
     Step {
         next: cursor_at(Place::ParamType, class, m, next_number(i)),

@@ -25,6 +25,8 @@ use Rattle.heaps.specs.declared.Part.the-variants.{Found, Absent}
 use Rattle.heaps.proofs.Lookups.{blob-within}
 use Rattle.layouts.specs.Kinds.{methodDef}
 use Rattle.layouts.proofs.Reaches.{and-left}
+use Rattle.classes.specs.Numbering.{classAt}
+use Rattle.classes.specs.declared.ClassNumber.{ClassNumber}
 use Rattle.record.specs.Missing.{andThen, orElse}
 use Rattle.record.specs.Columns.{methodList, methodSignature}
 use Rattle.record.specs.View.{View, viewOf}
@@ -134,21 +136,21 @@ module _ {t l : List ℕ} (laid : Laid t l) (strings heap : List ℕ) (m c : ℕ
         pub no-start : (b : List ℕ) {next : ℕ} → u ≡ NoNumber next → ReadingIs v heap m (readBy v m c) b b Missing
         no-start b g = missing (of-part ∙ signature-cut e (part heap start len) (ap uintSays (sym g) ∙ start-at)) refl
 
-        module _ {n first : ℕ} (g : u ≡ Number n first) {b b′ : List ℕ} {r : Rendering}
-            (rendered : Rendered (type (envIn t l strings heap (Of (2 * (c + 2))) (Of (2 * (m + 1) + 1))) levels sig first) b 0 b′ r) where
+        module _ {n first : ℕ} (g : u ≡ Number n first) {owner : ℕ} (its : owner ≡ 2 * (c + 2)) {b b′ : List ℕ} {r : Rendering}
+            (rendered : Rendered (type (envIn t l strings heap (Of owner) (Of (2 * (m + 1) + 1))) levels sig first) b 0 b′ r) where
           here : Rendered (type e levels (part heap start len) first) b 0 b′ r
           unfolding envIn
-          here = rw is at rendered
+          here = rw (is, its) at rendered
 
           pub no-type : {next : ℕ} → r ≡ Failed next → ReadingIs v heap m (readBy v m c) b b′ Missing
           no-type k =
               let x = rendered-failed here k in
               missing (of-part ∙ signature-unread e (part heap start len) (ap uintSays (sym g) ∙ start-at) (x .got)) (x .keeps .long)
 
-          pub signature-there : {end next : ℕ} → r ≡ Done end next → ReadingIs v heap m (readBy v m c) b b′ (Read (2 * (c + 2)) start len next n end)
+          pub signature-there : {end next : ℕ} → r ≡ Done end next → ReadingIs v heap m (readBy v m c) b b′ (Read owner start len next n end)
           signature-there k =
               let x = rendered-done here k in
-              read (x .text) inside (of-part ∙ signature-read e (part heap start len) (ap uintSays (sym g) ∙ start-at) (x .got) (x .on)) (x .wrote)
+              rw its (read (x .text) inside (of-part ∙ signature-read e (part heap start len) (ap uintSays (sym g) ∙ start-at) (x .got) (x .on)) (x .wrote))
 
 -- ---- Readings that were made
 
@@ -231,9 +233,9 @@ module _ (v : View) (m : ℕ) where
   unfolding signatureOf readFrom
   from-all = ap (λ (n : ℕ). pass v m 0 (methodLists v 0 n) .read) (sym (sub-zero (classes v)))
 
-  pub stand-from : (i : ℕ) → Standing (readFrom v m i) i 0 (m + 1)
+  pub stand-from : (i c : ℕ) → Standing (readFrom v m i) i c (m + 1)
   unfolding readFrom
-  stand-from i = rw (within-before v m 0 (m + 1) (later i .end) (omega arith))
+  stand-from i c = rw (within-before v m c (m + 1) (later i .end) (omega arith))
 
   later-end : (i n : ℕ) → n ≡ 0 → pass v m i (methodLists v i n) ≡ record { end = rowsIn v methodDef; read = none }
   unfolding pass tabulate
@@ -342,16 +344,12 @@ module _ {t l : List ℕ} (laid : Laid t l) (strings heap : List ℕ) where
     turn-skip e = subst (λ (i : ℕ). Standing w m s i c first) next-row (stand-skip w m (row - 1) is-class its-list s c first inv e)
 
     module _ (n : col ≡ 0 → ⊥) {b : Bool} (has : b ≡ (leb first m && ltb m (col - 1))) where
-      pub turn-read : b ≡ true → s ≡ orElse (readBy w m c) (readFrom w m (row + 1 - 2))
-      turn-read e =
-          let one : row - 1 ≡ row + 1 - 2 = omega arith in
-          stand-read w m (row - 1) is-class its-list s c first inv n has e ∙ ap (λ (i : ℕ). orElse (readBy w m c) (readFrom w m i)) one
+      pub turn-read : b ≡ true → s ≡ orElse (readBy w m c) (readFrom w m (row - 1))
+      turn-read e = stand-read w m (row - 1) is-class its-list s c first inv n has e
 
-      pub turn-next : b ≡ false → Standing w m s (row + 1 - 1) (row + 1 - 2) (col - 1)
-      turn-next e =
-          let one : row - 1 ≡ row + 1 - 2 = omega arith in
-          let next = stand-next w m (row - 1) is-class its-list s c first inv n has e in
-          subst (λ (i : ℕ). Standing w m s i (row + 1 - 2) (col - 1)) next-row (subst (λ (k : ℕ). Standing w m s (row - 1 + 1) k (col - 1)) one next)
+      pub turn-next : b ≡ false → {next : ClassNumber} → next ≡ classAt row → Standing w m s (row + 1 - 1) (next .0) (col - 1)
+      turn-next e is =
+          rw is (subst (λ (i : ℕ). Standing w m s i (row - 1) (col - 1)) next-row (stand-next w m (row - 1) is-class its-list s c first inv n has e))
 
   -- Where MethodList ascends: of the rows that begin at or below m the last is that of a class before which none has a say.
   pub from-begun : Ascends (cell t l 6) (rowsAt l 6) → (m : ℕ) {n : ℕ} → SplitAt (cell t l 6) (m + 2) (rowsAt l 6) n → (c : ℕ) → c + 2 ≤ n
@@ -367,30 +365,27 @@ module _ {t l : List ℕ} (laid : Laid t l) (strings heap : List ℕ) where
       subst (ReadFrom (viewIn t l strings heap) m) (sym one) from
 
   -- What the scan from a class on answers.
-  module _ (m from class first row : ℕ)
-      (inv : Standing (viewIn t l strings heap) m (readFrom (viewIn t l strings heap) m from) (row - 1) class first) where
+  module _ (m from : ℕ) (class : ClassNumber) (first row : ℕ)
+      (inv : Standing (viewIn t l strings heap) m (readFrom (viewIn t l strings heap) m from) (row - 1) (class .0) first) where
     abbrev u : View
     u = viewIn t l strings heap
 
-    pub read-last : class < 4_294_967_296 → m < rowsAt l 9 → first ≤ m → from + 1 < row → row ≡ rowsAt l 6 → ReaderIs u m from (By class (row - 1))
-    read-last c h lo f e =
+    pub read-last : m < rowsAt l 9 → first ≤ m → from + 1 < row → row ≡ rowsAt l 6 → {next : ClassNumber} → next ≡ classAt row
+        → ReaderIs u m from (By class next)
+    read-last h lo f e is =
         let all = classes-are laid strings heap 6 (omega arith) refl in
-        (c, omega arith, omega arith, end-read u m (row - 1) (omega arith) _ class first inv lo (omega (arith, methods-are laid strings heap 9 (omega arith) refl)))
+        rw is (omega arith, omega arith, end-read u m (row - 1) (omega arith) _ (class .0) first inv lo (omega (arith, methods-are laid strings heap 9 (omega arith) refl)))
 
     pub read-nobody : m < first → rowsAt l 6 ≤ row → ReaderIs u m from Nobody
-    read-nobody hi e = end-none u m (row - 1) (omega (arith, classes-are laid strings heap 6 (omega arith) refl)) _ class first inv hi
+    read-nobody hi e = end-none u m (row - 1) (omega (arith, classes-are laid strings heap 6 (omega arith) refl)) _ (class .0) first inv hi
 
-    module _ (c : class < 4_294_967_296) (f : first ≤ m → from + 1 < row) (h : row < rowsAt l 6) {col : ℕ} (read : col ≡ cell t l 6 row)
+    module _ (f : first ≤ m → from + 1 < row) (h : row < rowsAt l 6) {col : ℕ} (read : col ≡ cell t l 6 row)
         (n : col ≡ 0 → ⊥) {b : Bool} (has : b ≡ (leb first m && ltb m (col - 1))) where
-      pub read-met : b ≡ true → 0 < row → ReaderIs u m from (By class (row + 1 - 2))
-      read-met e z =
+      pub read-met : b ≡ true → 0 < row → {next : ClassNumber} → next ≡ classAt row → ReaderIs u m from (By class next)
+      read-met e z is =
           let lo : first ≤ m = leb→le first m (and-left (leb first m) (ltb m (col - 1)) (rw (sym has ∙ e) tt)) in
-          let after = f lo in (
-            c,
-            omega arith,
-            omega (arith, classes-are laid strings heap 6 (omega arith) refl),
-            turn-read m z h read _ class first inv n has e,
-          )
+          let after = f lo in
+          rw is (omega arith, omega (arith, classes-are laid strings heap 6 (omega arith) refl), turn-read m z h read _ (class .0) first inv n has e)
 
 pub reader-is : (v : View) (m c : ℕ) {r r′ : ClassReader} → ReaderIs v m c r → r ≡ r′ → ReaderIs v m c r′
 reader-is v m c h e = subst (ReaderIs v m c) e h

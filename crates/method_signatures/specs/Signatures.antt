@@ -42,7 +42,8 @@ ReadFrom v m c = signatureOf v m ≡ readFrom v m c
 
 -- Of the classes from c on the first that reads method m; if it fails, what the classes from another one on make of it stands.
 abbrev pub ReaderIs : View → ℕ → ℕ → ClassReader → Type 0
-ReaderIs v m c (By reader next) = (reader < 4_294_967_296) × (c < next) × (next ≤ classes v) × (readFrom v m c ≡ orElse (readBy v m reader) (readFrom v m next))
+ReaderIs v m c (By reader next) =
+    (c < next .0) × (next .0 ≤ classes v) × (readFrom v m c ≡ orElse (readBy v m (reader .0)) (readFrom v m (next .0)))
 ReaderIs v m c Nobody = readFrom v m c ≡ none
 
 -- From the buffer b to b′, r is the reading d of method m's signature: the return type was written, and the parameters' types follow in

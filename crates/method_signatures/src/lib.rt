@@ -3,6 +3,7 @@
 use buffers::Place;
 use buffers::Refusal;
 use buffers::Reply;
+use classes::ClassNumber;
 use heaps::Part;
 use numbers::Uint;
 use rendering::Rendering;
@@ -42,11 +43,11 @@ pub enum Reading {
 
 // A class that reads a method, and the class from which on others may read it too.
 pub enum ClassReader {
-    By(usize, usize),
+    By(ClassNumber, ClassNumber),
     Nobody,
 }
 
-// Class c's reading of method m's signature, both from 0.
+// A class's reading of method m's signature.
 fn read_by(
     buf: &mut [u8],
     tables: &[u8],
@@ -54,17 +55,17 @@ fn read_by(
     blob: &[u8],
     layout: &Layout,
     m: usize,
-    class: usize,
+    class: ClassNumber,
 ) -> Reading
     requires { ⌜ Laid (now tables) (now layout) ⌝ }
-    requires { ⌜ (m < rowsAt (now layout) 9) × (class < 4294967296) ⌝ }
-    ensures { λ r. ⌜ ReadingIs (viewIn (now (tables .entry)) (now (layout .entry)) (now (strings .entry)) (now (blob .entry))) (now (blob .entry)) m (readBy (viewIn (now (tables .entry)) (now (layout .entry)) (now (strings .entry)) (now (blob .entry))) m class) (now (buf .entry)) (now (buf .exit)) r ⌝ }
+    requires { ⌜ m < rowsAt (now layout) 9 ⌝ }
+    ensures { λ r. ⌜ ReadingIs (viewIn (now (tables .entry)) (now (layout .entry)) (now (strings .entry)) (now (blob .entry))) (now (blob .entry)) m (readBy (viewIn (now (tables .entry)) (now (layout .entry)) (now (strings .entry)) (now (blob .entry))) m (class .0)) (now (buf .entry)) (now (buf .exit)) r ⌝ }
 {
     let index = rows::read_column(tables, layout, columns::METHOD_SIGNATURE, m);
     match heaps::get_blob(blob, index as usize) {
         Part::Found { start, len } => {
             let sig = numbers::cut(blob, start, len);
-            let owner = 2 * (class + 2);
+            let owner = classes::owner_of(class);
             match sig_leaves::read_method_start(sig, 0) {
                 Uint::Number(count, first) => {
                     match signatures::parse_sig_type(
@@ -106,45 +107,46 @@ fn has_method(first: usize, end: usize, m: usize) -> bool
 }
 
 // A class before which none reads method m. Where MethodList is known to ascend, that is the last whose first method lies at or below m:
-// the last row whose column is at most m + 1. Class 0 is the second row.
-fn first_reader(tables: &[u8], layout: &Layout, m: usize) -> usize
+// the last row whose column is at most m + 1.
+fn first_reader(tables: &[u8], layout: &Layout, m: usize) -> ClassNumber
     requires { ⌜ Laid (now tables) (now layout) ⌝ }
     requires { ⌜ m < rowsAt (now layout) 9 ⌝ }
-    ensures { λ r. ⌜ (r < 4294967296) × ((strings blob : List ℕ) → ReadFrom (viewIn (now (tables .entry)) (now (layout .entry)) strings blob) m r) ⌝ }
+    ensures { λ r. ⌜ ((strings blob : List ℕ) → ReadFrom (viewIn (now (tables .entry)) (now (layout .entry)) strings blob) m (r .0)) ⌝ }
 {
     if rows::is_marked(layout, columns::METHOD_LIST) {
         let begun = keys::count_below(tables, layout, columns::METHOD_LIST, m + 2);
         if 2 <= begun {
-            return begun - 2;
+            return classes::class_at(begun - 1);
         }
     }
-    0
+    ClassNumber(0)
 }
 
 // The first class from one on that reads method m. A class reads from its first method up to that of the next class whose MethodList
 // column is not 0, so it is known to read m once that one is met.
-fn next_reader(tables: &[u8], layout: &Layout, m: usize, from: usize) -> ClassReader
+fn next_reader(tables: &[u8], layout: &Layout, m: usize, from: ClassNumber) -> ClassReader
     requires { ⌜ Laid (now tables) (now layout) ⌝ }
-    requires { ⌜ (m < rowsAt (now layout) 9) × (from < 4294967296) ⌝ }
-    ensures { λ r. ⌜ ((strings blob : List ℕ) → ReaderIs (viewIn (now (tables .entry)) (now (layout .entry)) strings blob) m from r) ⌝ }
+    requires { ⌜ m < rowsAt (now layout) 9 ⌝ }
+    ensures { λ r. ⌜ ((strings blob : List ℕ) → ReaderIs (viewIn (now (tables .entry)) (now (layout .entry)) strings blob) m (from .0) r) ⌝ }
 {
     let n = rows::count_rows(layout, columns::METHOD_LIST);
-    let mut class = 0;
+    let mut class = from;
     let mut first = m + 1;
-    let mut row = from + 1;
-    while row < n {
-        let column = rows::read_column(tables, layout, columns::METHOD_LIST, row) as usize;
-        row += 1;
+    let mut place = classes::place_of(from);
+    while place < n {
+        let column = rows::read_column(tables, layout, columns::METHOD_LIST, place) as usize;
+        let next = classes::class_at(place);
+        place += 1;
         if column != 0 {
             if has_method(first, column - 1, m) {
-                return ClassReader::By(class, row - 2);
+                return ClassReader::By(class, next);
             }
-            class = row - 2;
+            class = next;
             first = column - 1;
         }
     }
     if first <= m {
-        return ClassReader::By(class, row - 1);
+        return ClassReader::By(class, classes::class_at(place));
     }
     ClassReader::Nobody
 }
@@ -164,7 +166,7 @@ pub fn read_signature(
 {
     let n = rows::count_rows(layout, columns::METHOD_LIST);
     let mut class = first_reader(tables, layout, m);
-    while class < n {
+    while classes::place_of(class) < n {
         match next_reader(tables, layout, m, class) {
             ClassReader::By(reader, after) => {
                 match read_by(buf, tables, strings, blob, layout, m, reader) {

@@ -69,7 +69,7 @@ fn pass_over(file: i32, n: usize) {
 
 // Holds a whole listing against the file.
 fn compare_listing(file: i32, input: &[u8], expected: usize) -> Outcome {
-    let mut cursor = listing_text::first_cursor();
+    let mut cursor = lines::first_cursor();
     let mut left = expected;
     let mut turns: u64 = 0xFFFF_FFFF_FFFF_FFFF;
     while 0 < turns {

@@ -7,7 +7,7 @@ use Rattle.class_lines.proofs.class_line.Tie as tie
 use Rattle.class_lines.proofs.class_line.Reads as reads
 use Rattle.class_lines.proofs.class_line.Lts as lts
 use Rattle.class_answers.proofs.write_class_name.Reads as write-class-name-reads
-use Rattle.lines.proofs.cursor_at.Reads as cursor-at-reads
+use Rattle.lines.proofs.done_cursor.Reads as done-cursor-reads
 use Rattle.lines.proofs.name_step.Reads as name-step-reads
 
 -- src/lib.rt:93:34
@@ -23,8 +23,8 @@ cursor-at-requires : tie.Need-cursor-at-requires
 cursor-at-requires c κs = search needs
 
 -- src/lib.rt:95:9
-cursor-at-requires-2 : tie.Need-cursor-at-requires-2
-cursor-at-requires-2 c κs = search needs
+done-cursor-requires : tie.Need-done-cursor-requires
+done-cursor-requires c κs = search needs
 
 -- src/lib.rt:96:31
 slice-aggregate-name-step : tie.Need-slice-aggregate-name-step
@@ -44,7 +44,7 @@ same-length c = search needs
 
 -- src/lib.rt:80:1
 returns : tie.Need-returns
-returns c = λ m i. class-goes _ _ m i (c .before .before .before .before .before .before .before .cursor-at .ensures) (c .before .before .before .before .before .before .cursor-at2 .ensures)
+returns c = λ m i. class-goes _ _ m i (c .before .before .before .before .before .before .before .cursor-at .ensures) (c .before .before .before .before .before .before .done-cursor .ensures)
     (c .before .before .name-step .ensures _ _ (length-replicate {A = ℕ} 4096 0) (c .before .before .before .before .before .before .before .before .before .write-class-name .ensures _))
 
 pub class-line-spec : {M : Type 1} → statement M
@@ -54,7 +54,7 @@ class-line-spec =
     slice-aggregate-write-class-name
     write-class-name-requires
     cursor-at-requires
-    cursor-at-requires-2
+    done-cursor-requires
     slice-aggregate-name-step
     slice-aggregate-name-step-2
     name-step-requires

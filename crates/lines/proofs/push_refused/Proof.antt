@@ -5,7 +5,7 @@ use Rattle.lines.proofs.push_refused.Tie as tie
 use Rattle.lines.proofs.push_refused.Reads as reads
 use Rattle.lines.proofs.push_refused.Lts as lts
 use Rattle.buffers.proofs.refusal_number.Reads as refusal-number-reads
-use Rattle.lines.proofs.cursor_at.Reads as cursor-at-reads
+use Rattle.lines.proofs.done_cursor.Reads as done-cursor-reads
 use Rattle.lines.proofs.push_number.Reads as push-number-reads
 
 -- src/lib.rt:187:36
@@ -25,8 +25,8 @@ push-number-requires : tie.Need-push-number-requires
 push-number-requires c κs = search needs
 
 -- src/lib.rt:189:15
-cursor-at-requires : tie.Need-cursor-at-requires
-cursor-at-requires c κs = search needs
+done-cursor-requires : tie.Need-done-cursor-requires
+done-cursor-requires c κs = search needs
 
 -- src/lib.rt:184:1
 same-length : tie.Need-same-length
@@ -34,7 +34,7 @@ same-length c = search needs
 
 -- src/lib.rt:184:1
 returns : tie.Need-returns
-returns c = refusal-goes _ (c .before .before .before .before .refusal-number .ensures) (c .cursor-at .ensures) (c .before .before .before .push-number .ensures)
+returns c = refusal-goes _ (c .before .before .before .before .refusal-number .ensures) (c .done-cursor .ensures) (c .before .before .before .push-number .ensures)
 
 pub push-refused-spec : {M : Type 1} → statement M
 push-refused-spec =
@@ -44,6 +44,6 @@ push-refused-spec =
     refusal-number-requires
     cast-push-number
     push-number-requires
-    cursor-at-requires
+    done-cursor-requires
     same-length
     returns)

@@ -4,7 +4,7 @@ use Rattle.listing.proofs.write_listing.Tie as tie
 use Rattle.listing.proofs.write_listing.Reads as reads
 use Rattle.listing.proofs.write_listing.Lts as lts
 use Rattle.listing.proofs.write_piece.Reads as write-piece-reads
-use Rattle.listing_text.proofs.first_cursor.Reads as first-cursor-reads
+use Rattle.lines.proofs.first_cursor.Reads as first-cursor-reads
 use Rattle.listing_text.proofs.is_done.Reads as is-done-reads
 
 abbrev Inv-loop : tie.InvT-loop

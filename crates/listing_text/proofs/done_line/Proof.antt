@@ -4,7 +4,7 @@ use Rattle.listing_text.proofs.done_line.Statement.{statement}
 use Rattle.listing_text.proofs.done_line.Tie as tie
 use Rattle.listing_text.proofs.done_line.Reads as reads
 use Rattle.listing_text.proofs.done_line.Lts as lts
-use Rattle.lines.proofs.cursor_at.Reads as cursor-at-reads
+use Rattle.lines.proofs.done_cursor.Reads as done-cursor-reads
 use Rattle.lines.proofs.push_nothing.Reads as push-nothing-reads
 
 -- src/lib.rt:42:9
@@ -12,8 +12,8 @@ push-nothing-requires : tie.Need-push-nothing-requires
 push-nothing-requires c κs = search needs
 
 -- src/lib.rt:44:15
-cursor-at-requires : tie.Need-cursor-at-requires
-cursor-at-requires c κs = search needs
+done-cursor-requires : tie.Need-done-cursor-requires
+done-cursor-requires c κs = search needs
 
 -- src/lib.rt:39:1
 same-length : tie.Need-same-length
@@ -21,7 +21,7 @@ same-length c = search needs
 
 -- src/lib.rt:39:1
 returns : tie.Need-returns
-returns c = λ v d m i. done-goes v d m i (c .cursor-at .ensures) (c .before .before .before .push-nothing .ensures)
+returns c = λ v d m i. done-goes v d m i (c .done-cursor .ensures) (c .before .before .before .push-nothing .ensures)
 
 pub done-line-spec : {M : Type 1} → statement M
-done-line-spec = tie.close (tie.spec push-nothing-requires cursor-at-requires same-length returns)
+done-line-spec = tie.close (tie.spec push-nothing-requires done-cursor-requires same-length returns)

@@ -4,7 +4,7 @@ use Rattle.listing_text.proofs.fill_refused.Statement.{statement}
 use Rattle.listing_text.proofs.fill_refused.Tie as tie
 use Rattle.listing_text.proofs.fill_refused.Reads as reads
 use Rattle.listing_text.proofs.fill_refused.Lts as lts
-use Rattle.lines.proofs.cursor_at.Reads as cursor-at-reads
+use Rattle.lines.proofs.done_cursor.Reads as done-cursor-reads
 use Rattle.lines.proofs.push_refused.Reads as push-refused-reads
 
 -- src/lib.rt:139:41
@@ -28,8 +28,8 @@ enum-told-2 : tie.Need-enum-told-2
 enum-told-2 c = search needs
 
 -- src/lib.rt:148:19
-cursor-at-requires : tie.Need-cursor-at-requires
-cursor-at-requires c κs = search needs
+done-cursor-requires : tie.Need-done-cursor-requires
+done-cursor-requires c κs = search needs
 
 -- src/lib.rt:133:1
 same-length-2 : tie.Need-same-length-2
@@ -45,7 +45,7 @@ returns-3 c = λ o t n h e. refused-done o t n h e _ (c .enum-told2 .given .1)
 
 -- src/lib.rt:133:1
 returns-4 : tie.Need-returns-4
-returns-4 c = λ o t n h e. refused-elsewhere o t n h e _ (c .before .match .keys3) (c .cursor-at .ensures)
+returns-4 c = λ o t n h e. refused-elsewhere o t n h e _ (c .before .match .keys3) (c .done-cursor .ensures)
 
 pub fill-refused-spec : {M : Type 1} → statement M
 fill-refused-spec =
@@ -56,7 +56,7 @@ fill-refused-spec =
     same-length
     returns
     enum-told-2
-    cursor-at-requires
+    done-cursor-requires
     same-length-2
     returns-2
     returns-3

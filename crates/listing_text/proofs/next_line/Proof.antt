@@ -32,7 +32,7 @@ enum-told-2 c = search needs
 
 -- src/lib.rt:70:27
 classes-line-requires : tie.Need-classes-line-requires
-classes-line-requires c κs = c .before .before .before .before .before .before .before .pre .0
+classes-line-requires c κs = c .before .before .before .before .before .before .before .before .pre .0
 
 -- src/lib.rt:71:87
 enum-told-3 : tie.Need-enum-told-3
@@ -40,7 +40,7 @@ enum-told-3 c = search needs
 
 -- src/lib.rt:71:25
 class-line-requires : tie.Need-class-line-requires
-class-line-requires c κs = c .before .before .before .before .before .before .before .pre .0
+class-line-requires c κs = c .before .before .before .before .before .before .before .before .pre .0
 
 -- src/lib.rt:72:87
 enum-told-4 : tie.Need-enum-told-4
@@ -48,7 +48,7 @@ enum-told-4 c = search needs
 
 -- src/lib.rt:72:25
 flags-line-requires : tie.Need-flags-line-requires
-flags-line-requires c κs = c .before .before .before .before .before .before .before .pre .0
+flags-line-requires c κs = c .before .before .before .before .before .before .before .before .pre .0
 
 -- src/lib.rt:74:80
 enum-told-5 : tie.Need-enum-told-5
@@ -56,7 +56,7 @@ enum-told-5 c = search needs
 
 -- src/lib.rt:74:13
 generic-line-requires : tie.Need-generic-line-requires
-generic-line-requires c κs = c .before .before .before .before .before .before .before .pre .0
+generic-line-requires c κs = c .before .before .before .before .before .before .before .before .pre .0
 
 -- src/lib.rt:76:88
 enum-told-6 : tie.Need-enum-told-6
@@ -64,7 +64,7 @@ enum-told-6 c = search needs
 
 -- src/lib.rt:76:24
 base-line-requires : tie.Need-base-line-requires
-base-line-requires c κs = c .before .before .before .before .before .before .before .pre .0
+base-line-requires c κs = c .before .before .before .before .before .before .before .before .pre .0
 
 -- src/lib.rt:78:80
 enum-told-7 : tie.Need-enum-told-7
@@ -72,7 +72,7 @@ enum-told-7 c = search needs
 
 -- src/lib.rt:78:13
 method-line-requires : tie.Need-method-line-requires
-method-line-requires c κs = c .before .before .before .before .before .before .before .pre .0
+method-line-requires c κs = c .before .before .before .before .before .before .before .before .pre .0
 
 -- src/lib.rt:81:86
 enum-told-8 : tie.Need-enum-told-8
@@ -80,7 +80,7 @@ enum-told-8 c = search needs
 
 -- src/lib.rt:81:13
 method-flags-line-requires : tie.Need-method-flags-line-requires
-method-flags-line-requires c κs = c .before .before .before .before .before .before .before .pre .0
+method-flags-line-requires c κs = c .before .before .before .before .before .before .before .before .pre .0
 
 -- src/lib.rt:84:91
 enum-told-9 : tie.Need-enum-told-9
@@ -88,7 +88,7 @@ enum-told-9 c = search needs
 
 -- src/lib.rt:84:13
 method-generic-line-requires : tie.Need-method-generic-line-requires
-method-generic-line-requires c κs = c .before .before .before .before .before .before .before .pre .0
+method-generic-line-requires c κs = c .before .before .before .before .before .before .before .before .pre .0
 
 -- src/lib.rt:87:81
 enum-told-10 : tie.Need-enum-told-10
@@ -96,7 +96,7 @@ enum-told-10 c = search needs
 
 -- src/lib.rt:87:13
 returns-line-requires : tie.Need-returns-line-requires
-returns-line-requires c κs = c .before .before .before .before .before .before .before .pre .0
+returns-line-requires c κs = c .before .before .before .before .before .before .before .before .pre .0
 
 -- src/lib.rt:90:87
 enum-told-11 : tie.Need-enum-told-11
@@ -104,7 +104,7 @@ enum-told-11 c = search needs
 
 -- src/lib.rt:90:13
 param-type-line-requires : tie.Need-param-type-line-requires
-param-type-line-requires c κs = c .before .before .before .before .before .before .before .pre .0
+param-type-line-requires c κs = c .before .before .before .before .before .before .before .before .pre .0
 
 -- src/lib.rt:93:87
 enum-told-12 : tie.Need-enum-told-12
@@ -112,7 +112,7 @@ enum-told-12 c = search needs
 
 -- src/lib.rt:93:13
 param-name-line-requires : tie.Need-param-name-line-requires
-param-name-line-requires c κs = c .before .before .before .before .before .before .before .pre .0
+param-name-line-requires c κs = c .before .before .before .before .before .before .before .before .pre .0
 
 -- src/lib.rt:95:34
 enum-told-13 : tie.Need-enum-told-13
@@ -136,7 +136,7 @@ same-length-2 c = search needs
 
 -- src/lib.rt:50:1
 returns-2 : tie.Need-returns-2
-returns-2 c = at-view (c .before .before .before .before .before .before .before .before .before .before .pre .1 _ _) _ (c .before .before .before .before .enum-told2 .given .1) (c .before .before .classes-line .ensures _ _ _)
+returns-2 c = at-view (c .before .before .before .before .before .before .before .before .before .before .before .pre .1 _ _) _ (c .before .before .before .before .enum-told2 .given .1) (c .before .before .classes-line .ensures _ _ _)
 
 -- src/lib.rt:50:1
 same-length-3 : tie.Need-same-length-3
@@ -144,7 +144,7 @@ same-length-3 c = search needs
 
 -- src/lib.rt:50:1
 returns-3 : tie.Need-returns-3
-returns-3 c = at-view (c .before .before .before .before .before .before .before .before .before .before .pre .1 _ _) _ (c .before .before .before .before .enum-told3 .given .1) (c .before .before .class-line .ensures _ _)
+returns-3 c = at-view (c .before .before .before .before .before .before .before .before .before .before .before .pre .1 _ _) _ (c .before .before .before .before .enum-told3 .given .1) (c .before .before .class-line .ensures _ _)
 
 -- src/lib.rt:50:1
 same-length-4 : tie.Need-same-length-4
@@ -152,7 +152,7 @@ same-length-4 c = search needs
 
 -- src/lib.rt:50:1
 returns-4 : tie.Need-returns-4
-returns-4 c = at-view (c .before .before .before .before .before .before .before .before .before .before .pre .1 _ _) _ (c .before .before .before .before .enum-told4 .given .1) (c .before .before .flags-line .ensures _ _)
+returns-4 c = at-view (c .before .before .before .before .before .before .before .before .before .before .before .pre .1 _ _) _ (c .before .before .before .before .enum-told4 .given .1) (c .before .before .flags-line .ensures _ _)
 
 -- src/lib.rt:50:1
 same-length-5 : tie.Need-same-length-5
@@ -160,7 +160,7 @@ same-length-5 c = search needs
 
 -- src/lib.rt:50:1
 returns-5 : tie.Need-returns-5
-returns-5 c = at-view (c .before .before .before .before .before .before .before .before .before .before .pre .1 _ _) _ (c .before .before .before .before .enum-told5 .given .1) (c .before .before .generic-line .ensures _)
+returns-5 c = at-view (c .before .before .before .before .before .before .before .before .before .before .before .pre .1 _ _) _ (c .before .before .before .before .enum-told5 .given .1) (c .before .before .generic-line .ensures _)
 
 -- src/lib.rt:50:1
 same-length-6 : tie.Need-same-length-6
@@ -168,7 +168,7 @@ same-length-6 c = search needs
 
 -- src/lib.rt:50:1
 returns-6 : tie.Need-returns-6
-returns-6 c = at-view (c .before .before .before .before .before .before .before .before .before .before .pre .1 _ _) _ (c .before .before .before .before .enum-told6 .given .1) (c .before .before .base-line .ensures _)
+returns-6 c = at-view (c .before .before .before .before .before .before .before .before .before .before .before .pre .1 _ _) _ (c .before .before .before .before .enum-told6 .given .1) (c .before .before .base-line .ensures _)
 
 -- src/lib.rt:50:1
 same-length-7 : tie.Need-same-length-7
@@ -176,7 +176,7 @@ same-length-7 c = search needs
 
 -- src/lib.rt:50:1
 returns-7 : tie.Need-returns-7
-returns-7 c = at-view (c .before .before .before .before .before .before .before .before .before .before .pre .1 _ _) _ (c .before .before .before .before .enum-told7 .given .1) (c .before .before .method-line .ensures _)
+returns-7 c = at-view (c .before .before .before .before .before .before .before .before .before .before .before .pre .1 _ _) _ (c .before .before .before .before .enum-told7 .given .1) (c .before .before .method-line .ensures _)
 
 -- src/lib.rt:50:1
 same-length-8 : tie.Need-same-length-8
@@ -184,7 +184,7 @@ same-length-8 c = search needs
 
 -- src/lib.rt:50:1
 returns-8 : tie.Need-returns-8
-returns-8 c = at-view (c .before .before .before .before .before .before .before .before .before .before .pre .1 _ _) _ (c .before .before .before .before .enum-told8 .given .1) (c .before .before .method-flags-line .ensures _)
+returns-8 c = at-view (c .before .before .before .before .before .before .before .before .before .before .before .pre .1 _ _) _ (c .before .before .before .before .enum-told8 .given .1) (c .before .before .method-flags-line .ensures _)
 
 -- src/lib.rt:50:1
 same-length-9 : tie.Need-same-length-9
@@ -192,7 +192,7 @@ same-length-9 c = search needs
 
 -- src/lib.rt:50:1
 returns-9 : tie.Need-returns-9
-returns-9 c = at-view (c .before .before .before .before .before .before .before .before .before .before .pre .1 _ _) _ (c .before .before .before .before .enum-told9 .given .1) (c .before .before .method-generic-line .ensures)
+returns-9 c = at-view (c .before .before .before .before .before .before .before .before .before .before .before .pre .1 _ _) _ (c .before .before .before .before .enum-told9 .given .1) (c .before .before .method-generic-line .ensures)
 
 -- src/lib.rt:50:1
 same-length-10 : tie.Need-same-length-10
@@ -200,7 +200,7 @@ same-length-10 c = search needs
 
 -- src/lib.rt:50:1
 returns-10 : tie.Need-returns-10
-returns-10 c = at-view (c .before .before .before .before .before .before .before .before .before .before .pre .1 _ _) _ (c .before .before .before .before .enum-told10 .given .1) (c .before .before .returns-line .ensures _)
+returns-10 c = at-view (c .before .before .before .before .before .before .before .before .before .before .before .pre .1 _ _) _ (c .before .before .before .before .enum-told10 .given .1) (c .before .before .returns-line .ensures _)
 
 -- src/lib.rt:50:1
 same-length-11 : tie.Need-same-length-11
@@ -208,7 +208,7 @@ same-length-11 c = search needs
 
 -- src/lib.rt:50:1
 returns-11 : tie.Need-returns-11
-returns-11 c = at-view (c .before .before .before .before .before .before .before .before .before .before .pre .1 _ _) _ (c .before .before .before .before .enum-told11 .given .1) (c .before .before .param-type-line .ensures)
+returns-11 c = at-view (c .before .before .before .before .before .before .before .before .before .before .before .pre .1 _ _) _ (c .before .before .before .before .enum-told11 .given .1) (c .before .before .param-type-line .ensures)
 
 -- src/lib.rt:50:1
 same-length-12 : tie.Need-same-length-12
@@ -216,7 +216,7 @@ same-length-12 c = search needs
 
 -- src/lib.rt:50:1
 returns-12 : tie.Need-returns-12
-returns-12 c = at-view (c .before .before .before .before .before .before .before .before .before .before .pre .1 _ _) _ (c .before .before .before .before .enum-told12 .given .1) (c .before .before .param-name-line .ensures)
+returns-12 c = at-view (c .before .before .before .before .before .before .before .before .before .before .before .pre .1 _ _) _ (c .before .before .before .before .enum-told12 .given .1) (c .before .before .param-name-line .ensures)
 
 -- src/lib.rt:50:1
 same-length-13 : tie.Need-same-length-13

@@ -24,8 +24,8 @@ cursor-at-requires : tie.Need-cursor-at-requires
 cursor-at-requires c κs = search needs
 
 -- src/lib.rt:39:40
-next-number-requires : tie.Need-next-number-requires
-next-number-requires c κs = search needs
+next-class-requires : tie.Need-next-class-requires
+next-class-requires c κs = search needs
 
 -- src/lib.rt:39:9
 cursor-at-requires-2 : tie.Need-cursor-at-requires-2
@@ -49,7 +49,7 @@ same-length c = search needs
 
 -- src/lib.rt:23:1
 returns : tie.Need-returns
-returns c = λ i. method-goes _ _ _ i (c .before .before .before .before .before .before .before .before .cursor-at .ensures) (c .before .before .before .before .before .before .before .next-number .ensures) (c .before .before .before .before .before .before .cursor-at2 .ensures)
+returns c = λ i. method-goes _ _ _ i (c .before .before .before .before .before .before .before .before .cursor-at .ensures) (c .before .before .before .before .before .before .before .next-class .ensures) (c .before .before .before .before .before .before .cursor-at2 .ensures)
     (c .before .before .name-step .ensures _ _ (length-replicate {A = ℕ} 4096 0) (c .before .before .before .before .before .before .before .before .before .before .write-method-name .ensures _))
 
 pub method-line-spec : {M : Type 1} → statement M
@@ -59,7 +59,7 @@ method-line-spec =
     slice-aggregate-write-method-name
     write-method-name-requires
     cursor-at-requires
-    next-number-requires
+    next-class-requires
     cursor-at-requires-2
     slice-aggregate-name-step
     slice-aggregate-name-step-2

@@ -1,3 +1,5 @@
+use mathlib.Core.Path.{ap}
+use Rattle.classes.specs.declared.ClassNumber.{ClassNumber}
 use native.Mathlib.Omega.{arith}
 use Rattle.rows.proofs.Laws.{rows-narrow, marked-ascends}
 use Rattle.method_signatures.proofs.Laws.{from-all, from-begun}
@@ -25,25 +27,44 @@ count-below-requires c κs =
     let start = c .before .before .before in
     (start .pre .0, (omega arith, marked-ascends (start .pre .0) 6 (omega arith) (c .before .is-marked .ensures) (c .if1 .taken)))
 
+-- src/lib.rt:128:36
+sub-class-at : tie.Need-sub-class-at
+sub-class-at c = search needs
+
+-- src/lib.rt:128:20
+class-at-requires : tie.Need-class-at-requires
+class-at-requires c κs =
+    let counted = c .before in
+    let start = counted .before .before .before .before in
+    (omega (arith, c .if2 .taken), omega (arith, counted .count-below .ensures .within, rows-narrow (start .pre .0) 6 (omega arith)))
+
 -- src/lib.rt:128:13
 returns : tie.Need-returns
 returns c =
-    let counted = c .before in
+    let counted = c .before .before in
     let marked = counted .before in
     let start = marked .before .before .before in
     let s = counted .count-below .ensures in
     let up = marked-ascends (start .pre .0) 6 (omega arith) (marked .before .is-marked .ensures) (marked .if1 .taken) in
-    (omega (arith, s .within, rows-narrow (start .pre .0) 6 (omega arith)), λ strings blob. from-begun (start .pre .0) strings blob up _ s _ (omega (arith, c .if2 .taken)))
+    λ strings blob. from-begun (start .pre .0) strings blob up _ s _ (omega (arith, c .before .if2 .taken, ap (λ (k : ClassNumber). k .0) (c .class-at .ensures)))
 
 -- src/lib.rt:120:1
 returns-2 : tie.Need-returns-2
-returns-2 c = (omega arith, λ strings blob. from-all _ _)
+returns-2 c = λ strings blob. from-all _ _
 
 -- src/lib.rt:120:1
 returns-3 : tie.Need-returns-3
-returns-3 c = (omega arith, λ strings blob. from-all _ _)
+returns-3 c = λ strings blob. from-all _ _
 
 pub first-reader-spec : {M : Type 1} → statement M
 first-reader-spec =
     tie.close
-    (tie.spec is-marked-requires add-count-below count-below-requires returns returns-2 returns-3)
+    (tie.spec
+    is-marked-requires
+    add-count-below
+    count-below-requires
+    sub-class-at
+    class-at-requires
+    returns
+    returns-2
+    returns-3)

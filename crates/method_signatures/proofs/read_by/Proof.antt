@@ -33,13 +33,9 @@ enum-known-start c = search needs
 cut-requires : tie.Need-cut-requires
 cut-requires c κs = search needs
 
--- src/lib.rt:61:30
-add-owner : tie.Need-add-owner
-add-owner c = search needs
-
--- src/lib.rt:61:25
-mul-owner : tie.Need-mul-owner
-mul-owner c = search needs
+-- src/lib.rt:0:0
+owner-of-requires : tie.Need-owner-of-requires
+owner-of-requires c κs = search needs
 
 -- src/lib.rt:62:19
 read-method-start-requires : tie.Need-read-method-start-requires
@@ -50,22 +46,22 @@ enum-known-count : tie.Need-enum-known-count
 enum-known-count c = search needs
 
 -- src/lib.rt:72:40
-add-t27 : tie.Need-add-t27
-add-t27 c =
-    let start = c .before .before .before .before .before .before .before .before .before .before .before .before .before .before .before in
-    record { fits = omega (arith, start .pre .1 .0, rows-narrow (start .pre .0) 9 (omega arith)) }
+add-t26 : tie.Need-add-t26
+add-t26 c =
+    let start = c .before .before .before .before .before .before .before .before .before .before .before .before .before .before .before .before in
+    record { fits = omega (arith, start .pre .1, rows-narrow (start .pre .0) 9 (omega arith)) }
 
 -- src/lib.rt:72:35
-mul-t28 : tie.Need-mul-t28
-mul-t28 c =
-    let start = c .before .before .before .before .before .before .before .before .before .before .before .before .before .before .before in
-    record { fits = omega (arith, start .pre .1 .0, rows-narrow (start .pre .0) 9 (omega arith)) }
+mul-t27 : tie.Need-mul-t27
+mul-t27 c =
+    let start = c .before .before .before .before .before .before .before .before .before .before .before .before .before .before .before .before in
+    record { fits = omega (arith, start .pre .1, rows-narrow (start .pre .0) 9 (omega arith)) }
 
 -- src/lib.rt:72:35
-add-t29 : tie.Need-add-t29
-add-t29 c =
-    let start = c .before .before .before .before .before .before .before .before .before .before .before .before .before .before .before in
-    record { fits = omega (arith, start .pre .1 .0, rows-narrow (start .pre .0) 9 (omega arith)) }
+add-t28 : tie.Need-add-t28
+add-t28 c =
+    let start = c .before .before .before .before .before .before .before .before .before .before .before .before .before .before .before .before in
+    record { fits = omega (arith, start .pre .1, rows-narrow (start .pre .0) 9 (omega arith)) }
 
 -- src/lib.rt:64:27
 parse-sig-type-requires : tie.Need-parse-sig-type-requires
@@ -98,13 +94,14 @@ returns c =
     let at-parse-sig-type = at-end .before .before .before .before in
     let at-count = at-parse-sig-type .before .before .before in
     let at-read-method-start = at-count .before .before in
-    let at-cut = at-read-method-start .before in
+    let at-owner-of = at-read-method-start .before in
+    let at-cut = at-owner-of .before in
     let at-start = at-cut .before .before in
     let at-get-blob = at-start .before .before in
     let at-read-column = at-get-blob .before in
     let start = at-read-column .before .before .before .before .before in
-    let there = inside (start .pre .0) (start .args .strings .now) (start .args .blob .now) (start .args .m) (start .args .class) (start .pre .1 .0) (at-read-column .read-column .ensures) (at-get-blob .get-blob .ensures) (at-start .start .given .1) in
-    signature-there (start .pre .0) _ _ _ _ (start .pre .1 .0) (at-read-column .read-column .ensures) (at-get-blob .get-blob .ensures) (at-start .start .given .1) (cut-is _ _ _ _ there (at-cut .cut .ensures) .bytes) _ (at-read-method-start .read-method-start .ensures) (at-count .count .given .1) (at-parse-sig-type .parse-sig-type .ensures) (at-end .end .given .1)
+    let there = inside (start .pre .0) (start .args .strings .now) (start .args .blob .now) (start .args .m) (start .args .class .0) (start .pre .1) (at-read-column .read-column .ensures) (at-get-blob .get-blob .ensures) (at-start .start .given .1) in
+    signature-there (start .pre .0) _ _ _ _ (start .pre .1) (at-read-column .read-column .ensures) (at-get-blob .get-blob .ensures) (at-start .start .given .1) (cut-is _ _ _ _ there (at-cut .cut .ensures) .bytes) _ (at-read-method-start .read-method-start .ensures) (at-count .count .given .1) (at-owner-of .owner-of .ensures) (at-parse-sig-type .parse-sig-type .ensures) (at-end .end .given .1)
 
 -- src/lib.rt:44:1
 same-length-2 : tie.Need-same-length-2
@@ -116,25 +113,27 @@ returns-2 c =
     let at-parse-sig-type = c .before .before .before .before in
     let at-count = at-parse-sig-type .before .before .before in
     let at-read-method-start = at-count .before .before in
-    let at-cut = at-read-method-start .before in
+    let at-owner-of = at-read-method-start .before in
+    let at-cut = at-owner-of .before in
     let at-start = at-cut .before .before in
     let at-get-blob = at-start .before .before in
     let at-read-column = at-get-blob .before in
     let start = at-read-column .before .before .before .before .before in
-    let there = inside (start .pre .0) (start .args .strings .now) (start .args .blob .now) (start .args .m) (start .args .class) (start .pre .1 .0) (at-read-column .read-column .ensures) (at-get-blob .get-blob .ensures) (at-start .start .given .1) in
-    no-type (start .pre .0) _ _ _ _ (start .pre .1 .0) (at-read-column .read-column .ensures) (at-get-blob .get-blob .ensures) (at-start .start .given .1) (cut-is _ _ _ _ there (at-cut .cut .ensures) .bytes) _ (at-read-method-start .read-method-start .ensures) (at-count .count .given .1) (at-parse-sig-type .parse-sig-type .ensures) (c .enum-told .given .1)
+    let there = inside (start .pre .0) (start .args .strings .now) (start .args .blob .now) (start .args .m) (start .args .class .0) (start .pre .1) (at-read-column .read-column .ensures) (at-get-blob .get-blob .ensures) (at-start .start .given .1) in
+    no-type (start .pre .0) _ _ _ _ (start .pre .1) (at-read-column .read-column .ensures) (at-get-blob .get-blob .ensures) (at-start .start .given .1) (cut-is _ _ _ _ there (at-cut .cut .ensures) .bytes) _ (at-read-method-start .read-method-start .ensures) (at-count .count .given .1) (at-owner-of .owner-of .ensures) (at-parse-sig-type .parse-sig-type .ensures) (c .enum-told .given .1)
 
 -- src/lib.rt:44:1
 returns-3 : tie.Need-returns-3
 returns-3 c =
     let at-read-method-start = c .before .before in
-    let at-cut = at-read-method-start .before in
+    let at-owner-of = at-read-method-start .before in
+    let at-cut = at-owner-of .before in
     let at-start = at-cut .before .before in
     let at-get-blob = at-start .before .before in
     let at-read-column = at-get-blob .before in
     let start = at-read-column .before .before .before .before .before in
-    let there = inside (start .pre .0) (start .args .strings .now) (start .args .blob .now) (start .args .m) (start .args .class) (start .pre .1 .0) (at-read-column .read-column .ensures) (at-get-blob .get-blob .ensures) (at-start .start .given .1) in
-    no-start (start .pre .0) _ _ _ _ (start .pre .1 .0) (at-read-column .read-column .ensures) (at-get-blob .get-blob .ensures) (at-start .start .given .1) (cut-is _ _ _ _ there (at-cut .cut .ensures) .bytes) _ (at-read-method-start .read-method-start .ensures) _ (c .enum-told2 .given .1)
+    let there = inside (start .pre .0) (start .args .strings .now) (start .args .blob .now) (start .args .m) (start .args .class .0) (start .pre .1) (at-read-column .read-column .ensures) (at-get-blob .get-blob .ensures) (at-start .start .given .1) in
+    no-start (start .pre .0) _ _ _ _ (start .pre .1) (at-read-column .read-column .ensures) (at-get-blob .get-blob .ensures) (at-start .start .given .1) (cut-is _ _ _ _ there (at-cut .cut .ensures) .bytes) _ (at-read-method-start .read-method-start .ensures) _ (c .enum-told2 .given .1)
 
 -- src/lib.rt:44:1
 returns-4 : tie.Need-returns-4
@@ -142,7 +141,7 @@ returns-4 c =
     let at-get-blob = c .before .before in
     let at-read-column = at-get-blob .before in
     let start = at-read-column .before .before .before .before .before in
-    no-blob (start .pre .0) _ _ _ _ (start .pre .1 .0) (at-read-column .read-column .ensures) (at-get-blob .get-blob .ensures) _ (c .enum-told3 .given .1)
+    no-blob (start .pre .0) _ _ _ _ (start .pre .1) (at-read-column .read-column .ensures) (at-get-blob .get-blob .ensures) _ (c .enum-told3 .given .1)
 
 pub read-by-spec : {M : Type 1} → statement M
 read-by-spec =
@@ -153,13 +152,12 @@ read-by-spec =
     get-blob-requires
     enum-known-start
     cut-requires
-    add-owner
-    mul-owner
+    owner-of-requires
     read-method-start-requires
     enum-known-count
-    add-t27
-    mul-t28
-    add-t29
+    add-t26
+    mul-t27
+    add-t28
     parse-sig-type-requires
     enum-known-end
     enum-told

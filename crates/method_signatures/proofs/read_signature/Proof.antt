@@ -19,10 +19,10 @@ use Rattle.method_signatures.proofs.read_by.Reads as read-by-reads
 use Rattle.rows.proofs.count_rows.Reads as count-rows-reads
 
 abbrev Inv-loop : tie.InvT-loop
-Inv-loop buf₀ tables strings blob layout m n class₀ buf class = (length buf ≡ length buf₀) × ReadFrom (viewIn tables layout strings blob) m class
+Inv-loop buf₀ tables strings blob layout m n class₀ buf class = (length buf ≡ length buf₀) × ReadFrom (viewIn tables layout strings blob) m (class .0)
 
 abbrev μ-loop : tie.MeasureT-loop
-μ-loop buf₀ tables strings blob layout m n class₀ buf class = n - class
+μ-loop buf₀ tables strings blob layout m n class₀ buf class = n - class .0
 
 -- src/lib.rt:165:9
 count-rows-requires : tie.Need-count-rows-requires Inv-loop μ-loop
@@ -36,30 +36,23 @@ first-reader-requires c κs = search needs
 loop-holds : tie.Need-loop-holds Inv-loop μ-loop
 loop-holds c =
     let start = c .before .before .before .before .before .before in
-    (refl, c .first-reader .ensures .1 (start .args .strings .now) (start .args .blob .now))
+    (refl, c .first-reader .ensures (start .args .strings .now) (start .args .blob .now))
 
--- src/lib.rt:168:15
+-- src/lib.rt:0:0
+place-of-requires : tie.Need-place-of-requires Inv-loop μ-loop
+place-of-requires c κs = search needs
+
+-- src/lib.rt:0:0
 next-reader-requires : tie.Need-next-reader-requires Inv-loop μ-loop
-next-reader-requires c κs =
-    let start = c .before .before .before .before .before .before .before .before in
-    (start .pre .0, (start .pre .1, omega (arith, c .loop-test .taken, c .before .before .before .count-rows .ensures, rows-narrow (start .pre .0) 6 (omega arith))))
+next-reader-requires c κs = search needs
 
 -- src/lib.rt:169:29
 enum-known-reader : tie.Need-enum-known-reader Inv-loop μ-loop
 enum-known-reader c = search needs
 
--- src/lib.rt:170:23
+-- src/lib.rt:0:0
 read-by-requires : tie.Need-read-by-requires Inv-loop μ-loop
-read-by-requires c κs =
-    let told = c .before .before in
-    let asked = told .before .before in
-    let l = asked .before .before .loop in
-    let start = asked .before .before .before .before .before .before .before .before .before in
-    let a = start .args in
-    let v = viewIn (a .tables .now) (a .layout .now) (a .strings .now) (a .blob .now) in
-    let answer = asked .next-reader .ensures (a .strings .now) (a .blob .now) in
-    let is = reader-is v (a .m) (l .class) answer (told .reader .given .1) in
-    (start .pre .0, (start .pre .1, is .0))
+read-by-requires c κs = search needs
 
 -- src/lib.rt:172:25
 enum-known-owner : tie.Need-enum-known-owner Inv-loop μ-loop
@@ -75,13 +68,13 @@ returns c =
     let made = c .before .before .before .before .before in
     let told = made .before .before .before in
     let asked = told .before .before in
-    let l = asked .before .before .loop in
-    let start = asked .before .before .before .before .before .before .before .before .before in
+    let l = asked .before .before .before .loop in
+    let start = asked .before .before .before .before .before .before .before .before .before .before in
     let a = start .args in
     let v = viewIn (a .tables .now) (a .layout .now) (a .strings .now) (a .blob .now) in
     let answer = asked .next-reader .ensures (a .strings .now) (a .blob .now) in
-    let is = reader-is v (a .m) (l .class) answer (told .reader .given .1) in
-    reading-length (l .inv .0) (reading-stands (made .read-by .ensures) (reader-stands v (a .m) (l .class) _ _ (l .inv .1) (is .3)) (c .before .owner .given .1))
+    let is = reader-is v (a .m) (l .class .0) answer (told .reader .given .1) in
+    reading-length (l .inv .0) (reading-stands (made .read-by .ensures) (reader-stands v (a .m) (l .class .0) _ _ (l .inv .1) (is .2)) (c .before .owner .given .1))
 
 -- src/lib.rt:189:25
 enum-told : tie.Need-enum-told Inv-loop μ-loop
@@ -93,13 +86,13 @@ loop-less c =
     let made = c .before .before .before .before in
     let told = made .before .before .before in
     let asked = told .before .before in
-    let l = asked .before .before .loop in
-    let start = asked .before .before .before .before .before .before .before .before .before in
+    let l = asked .before .before .before .loop in
+    let start = asked .before .before .before .before .before .before .before .before .before .before in
     let a = start .args in
     let v = viewIn (a .tables .now) (a .layout .now) (a .strings .now) (a .blob .now) in
     let answer = asked .next-reader .ensures (a .strings .now) (a .blob .now) in
-    let is = reader-is v (a .m) (l .class) answer (told .reader .given .1) in
-    omega (arith, is .1, asked .before .loop-test .taken)
+    let is = reader-is v (a .m) (l .class .0) answer (told .reader .given .1) in
+    omega (arith, is .0, asked .before .if1 .taken, asked .before .before .place-of .ensures)
 
 -- src/lib.rt:167:5
 loop-again : tie.Need-loop-again Inv-loop μ-loop
@@ -107,14 +100,14 @@ loop-again c =
     let made = c .before .before .before .before in
     let told = made .before .before .before in
     let asked = told .before .before in
-    let l = asked .before .before .loop in
-    let start = asked .before .before .before .before .before .before .before .before .before in
+    let l = asked .before .before .before .loop in
+    let start = asked .before .before .before .before .before .before .before .before .before .before in
     let a = start .args in
     let v = viewIn (a .tables .now) (a .layout .now) (a .strings .now) (a .blob .now) in
     let answer = asked .next-reader .ensures (a .strings .now) (a .blob .now) in
-    let is = reader-is v (a .m) (l .class) answer (told .reader .given .1) in
+    let is = reader-is v (a .m) (l .class .0) answer (told .reader .given .1) in
     let gone = reading-missed (made .read-by .ensures) (c .enum-told .given .1) in
-    (gone .1 ∙ l .inv .0, reader-fails v (a .m) (l .class) _ _ (l .inv .1) (is .3) (gone .0))
+    (gone .1 ∙ l .inv .0, reader-fails v (a .m) (l .class .0) _ _ (l .inv .1) (is .2) (gone .0))
 
 -- src/lib.rt:194:17
 enum-told-2 : tie.Need-enum-told-2 Inv-loop μ-loop
@@ -128,12 +121,12 @@ same-length-2 c = search needs
 returns-2 : tie.Need-returns-2 Inv-loop μ-loop
 returns-2 c =
     let asked = c .before .before in
-    let l = asked .before .before .loop in
-    let start = asked .before .before .before .before .before .before .before .before .before in
+    let l = asked .before .before .before .loop in
+    let start = asked .before .before .before .before .before .before .before .before .before .before in
     let a = start .args in
     let v = viewIn (a .tables .now) (a .layout .now) (a .strings .now) (a .blob .now) in
     let answer = asked .next-reader .ensures (a .strings .now) (a .blob .now) in
-    missing (l .inv .1 ∙ reader-is v (a .m) (l .class) answer (c .enum-told2 .given .1)) (l .inv .0)
+    missing (l .inv .1 ∙ reader-is v (a .m) (l .class .0) answer (c .enum-told2 .given .1)) (l .inv .0)
 
 -- src/lib.rt:153:1
 same-length-3 : tie.Need-same-length-3 Inv-loop μ-loop
@@ -142,12 +135,13 @@ same-length-3 c = search needs
 -- src/lib.rt:153:1
 returns-3 : tie.Need-returns-3 Inv-loop μ-loop
 returns-3 c =
-    let l = c .before .loop in
-    let start = c .before .before .before .before .before .before .before .before in
+    let l = c .before .before .loop in
+    let start = c .before .before .before .before .before .before .before .before .before in
     let a = start .args in
     let v = viewIn (a .tables .now) (a .layout .now) (a .strings .now) (a .blob .now) in
-    let past : classes v ≤ l .class = omega (arith, c .loop-test .left, c .before .before .before .count-rows .ensures, classes-are (start .pre .0) (a .strings .now) (a .blob .now) 6 (omega arith) refl) in
-    missing (l .inv .1 ∙ from-none v (a .m) (l .class) past) (l .inv .0)
+    let all = classes-are (start .pre .0) (a .strings .now) (a .blob .now) 6 (omega arith) refl in
+    let past : classes v ≤ l .class .0 = omega (arith, c .if1 .left, c .before .place-of .ensures, c .before .before .before .before .count-rows .ensures, all) in
+    missing (l .inv .1 ∙ from-none v (a .m) (l .class .0) past) (l .inv .0)
 
 pub read-signature-spec : {M : Type 1} → statement M
 read-signature-spec =
@@ -158,6 +152,7 @@ read-signature-spec =
     count-rows-requires
     first-reader-requires
     loop-holds
+    place-of-requires
     next-reader-requires
     enum-known-reader
     read-by-requires
