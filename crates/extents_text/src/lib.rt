@@ -7,9 +7,12 @@ use buffers::put;
 use buffers::refusal_number;
 use bundle::Bundle;
 use tables::Extents;
+ghost use mathlib.Core.Path.{_≡_};
+ghost use Prim.Native.Nat.{_+_, min};
+ghost use lib.ListN.{length};
 ghost use Rattle.buffers.specs.Texts.{q};
 ghost use Rattle.buffers.specs.Writes.{Wrote};
-ghost use Rattle.buffers.specs.Replies.{number, replySays};
+ghost use Rattle.buffers.specs.Replies.{number, replySays, value, nameBuffer};
 ghost use Rattle.tables.specs.Extents.{walkSays};
 ghost use Rattle.extents_text.specs.Lines.{field, kindLine, kindLines, keyLine, walkText, extentsText};
 
@@ -73,12 +76,24 @@ fn push_walk(out: &mut [u8], w: Extents) -> usize
     }
 }
 
-// The text of an input, from the buffer's start, and its length: one more than the buffer's where it does not fit.
-pub fn write_extents(input: &[u8], out: &mut [u8]) -> usize
+// Append the text of an input to an empty buffer.
+fn push_extents(input: &[u8], out: &mut [u8]) -> usize
     ensures { λ r. ⌜ Wrote (now (out .entry)) 0 (extentsText (now (input .entry))) (now (out .exit)) r ⌝ }
 {
     match bundle::open_bundle(input) {
         Bundle::Streams(p, _, _) => push_walk(out, walks::walk(numbers::cut(input, p.at, p.len))),
         Bundle::Malformed => push_refused(out, Refusal::BadInput),
     }
+}
+
+// The text of an input, from the buffer's start, and then zeros; zeros alone where it does not fit. Answers its length, or one more than
+// the buffer's.
+pub fn write_extents(input: &[u8], out: &mut [u8]) -> usize
+    ensures { λ r. let text = extentsText (now (input .entry)) in
+        let room = length (now (out .entry)) in
+        ⌜ (r ≡ min (length text) (room + 1)) × (now (out .exit) ≡ nameBuffer (value text) room) ⌝ }
+{
+    let end = push_extents(input, out);
+    buffers::finish(out, end);
+    end
 }

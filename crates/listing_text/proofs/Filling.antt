@@ -2,7 +2,8 @@
 use mathlib.Core.Path.{_≡_, refl, sym, _∙_, ap, subst}
 use mathlib.Core.Bool.{Bool, true, false, cond}
 use mathlib.Core.List.{List, [], _++_}
-use Prim.Native.Nat.{ℕ, zero, suc, _+_, _-_, _<_, _≤_}
+use Prim.Native.Nat.{ℕ, zero, suc, _+_, _-_, _<_, _≤_, min}
+use native.Mathlib.Nat.{zero-add}
 use native.Mathlib.Omega.{arith}
 use borrow.Author.Tests.{le-leb, lt-leb}
 use lib.ListN.{length, length-append}
@@ -10,7 +11,9 @@ use Rattle.numbers.specs.Parts.{part}
 use Rattle.buffers.specs.Texts.{Text}
 use Rattle.buffers.specs.Writes.{Wrote}
 use Rattle.buffers.proofs.Writing.{wrote-none, wrote-then, kept-wrote}
-use Rattle.buffers.specs.Replies.{number}
+use Rattle.buffers.specs.Replies.{number, Named, held}
+use Rattle.buffers.specs.declared.Reply.{Reply}
+use Rattle.buffers.proofs.Replies.{named-text}
 use Rattle.buffers.specs.declared.Refusal.the-variants.{BadInput}
 use Rattle.bundle.specs.Input.{bundleOf}
 use Rattle.bundle.specs.declared.Part.{Part}
@@ -23,7 +26,7 @@ use Rattle.lines.specs.Cursors.{cursor, done, lineAt, nextAt, Went, Stepped}
 use Rattle.lines.specs.declared.Place.{Place}
 use Rattle.lines.specs.declared.Cursor.{Cursor}
 use Rattle.lines.specs.declared.Step.{Step}
-use Rattle.listing_text.specs.Filling.{isDone, Piece, pieceFrom, pieceOf, inputPiece, Filled}
+use Rattle.listing_text.specs.Filling.{isDone, Piece, pieceFrom, pieceOf, inputPiece, Pieced, Filled}
 
 -- A cursor's step is known by its place.
 pub at-place : (v : View) (c : Cursor) {p : Place} {o o′ : List ℕ} {at : ℕ} {s : Step}
@@ -76,20 +79,20 @@ pub record Going (v : View) (p : Piece) (b b′ : List ℕ) (c : Cursor) (at ste
 pub going-start : (v : View) (b : List ℕ) (c : Cursor) (steps : ℕ) → Going v (pieceFrom v (length b) steps [] c) b b c 0 steps
 going-start v b c steps = record { text = []; wrote = wrote-none b 0 0 (omega arith); fits = omega arith; rest = refl }
 
-stands : {p q : Piece} {b b′ : List ℕ} {at : ℕ} → p ≡ q → Wrote b 0 (p .text) b′ at → Filled q b b′ (record { next = p .next; at = at })
+stands : {p q : Piece} {b b′ : List ℕ} {at : ℕ} → p ≡ q → Wrote b 0 (p .text) b′ at → Pieced q b b′ (record { next = p .next; at = at })
 stands {p} {q} {b} {b′} {at} e w =
-    subst (λ (x : Piece). Filled x b b′ (record { next = p .next; at = at })) e (record { wrote = w; goes = refl })
+    subst (λ (x : Piece). Pieced x b b′ (record { next = p .next; at = at })) e (record { wrote = w; goes = refl })
 
 module _ {v : View} {p : Piece} {b b′ : List ℕ} {c : Cursor} {at steps : ℕ} (g : Going v p b b′ c at steps) where
-  pub going-out : steps ≤ 0 → Filled p b b′ (record { next = c; at = at })
+  pub going-out : steps ≤ 0 → Pieced p b b′ (record { next = c; at = at })
   going-out h = stands (sym (no-steps v (length b) (g .text) c steps h) ∙ g .rest) (g .wrote)
 
-  pub going-done : {x : Bool} → x ≡ isDone (c .place) → x ≡ true → Filled p b b′ (record { next = c; at = at })
+  pub going-done : {x : Bool} → x ≡ isDone (c .place) → x ≡ true → Pieced p b b′ (record { next = c; at = at })
   going-done e k = stands (sym (is-done v (length b) (g .text) c steps (sym e ∙ k)) ∙ g .rest) (g .wrote)
 
   module _ {b″ : List ℕ} {s : Step} (w : Stepped v c b′ at b″ s) where
     -- The line is too long for the room: it is taken back.
-    pub going-full : length b″ < s .at → Filled p b b″ (record { next = c; at = at })
+    pub going-full : length b″ < s .at → Pieced p b b″ (record { next = c; at = at })
     going-full h =
         let over : length b < length (g .text ++ lineAt v c) =
         omega (arith, length-append (g .text) (lineAt v c), w .wrote .place, w .wrote .keeps .long, g .wrote .place, g .wrote .keeps .long, g .fits) in
@@ -110,9 +113,17 @@ module _ {v : View} {p : Piece} {b b′ : List ℕ} {c : Cursor} {at steps : ℕ
               ∙ g .rest;
         }
 
+-- A piece that was appended, and then zeros.
+pub piece-ended : {p : Piece} {b b₁ b₂ : List ℕ} {s : Step} {r : Reply} → Pieced p b b₁ s → Named (held b₁ (s .at)) b₁ r b₂ → Filled p b b₂ s
+piece-ended {p} {b} w n = record {
+  used = w .wrote .place ∙ ap (λ (k : ℕ). min k (length b + 1)) (zero-add (length (p .text)));
+  buffer = named-text (w .wrote) n .buffer;
+  goes = w .goes;
+}
+
 -- A program's whole input.
 module _ (s : List ℕ) (room : ℕ) (from : Cursor) {b b′ : List ℕ} {r : Step} where
-  pub input-malformed : Malformed ≡ bundleOf s → Went (refusedLine (number BadInput)) done b 0 b′ r → Filled (inputPiece s room from) b b′ r
+  pub input-malformed : Malformed ≡ bundleOf s → Went (refusedLine (number BadInput)) done b 0 b′ r → Pieced (inputPiece s room from) b b′ r
   unfolding inputPiece
   input-malformed e w = rw (← e) (record { wrote = w .wrote; goes = w .goes })
 

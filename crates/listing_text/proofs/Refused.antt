@@ -29,7 +29,7 @@ use Rattle.lines.specs.declared.Place.the-variants as at
 use Rattle.lines.specs.declared.Cursor.{Cursor}
 use Rattle.lines.specs.declared.Step.{Step}
 use Rattle.lines.proofs.Place.{the-type}
-use Rattle.listing_text.specs.Filling.{isDone, Piece, pieceFrom, pieceOf, mostSteps, Filled}
+use Rattle.listing_text.specs.Filling.{isDone, Piece, pieceFrom, pieceOf, mostSteps, Pieced}
 use Rattle.listing_text.proofs.Filling.{at-place, is-done, goes-on, going-start, going-done, going-full, going-on}
 
 -- Opening refuses by 1, 2 or 3.
@@ -153,11 +153,11 @@ module _ (o : Options) (t strings blob : List ℕ) {why : Refusal} (e : opened o
 
   -- What is done with a buffer.
   module _ (from : Cursor) {b : List ℕ} where
-    pub refused-done : from .place ≡ at.Done → Filled (pieceOf v (length b) from) b b (record { next = from; at = 0 })
+    pub refused-done : from .place ≡ at.Done → Pieced (pieceOf v (length b) from) b b (record { next = from; at = 0 })
     refused-done f = going-done (going-start v b from mostSteps) refl (ap isDone f)
 
     pub refused-elsewhere : {next : Cursor} → OneOf others (tagOf the-type (from .place)) → next ≡ done
-        → Filled (pieceOf v (length b) from) b b (record { next = next; at = 0 })
+        → Pieced (pieceOf v (length b) from) b b (record { next = next; at = 0 })
     refused-elsewhere h g =
         rw (elsewhere (length b) (from .place) (from .class .0) (from .method) (from .i) h mostSteps (omega arith))
         (record { wrote = wrote-none b 0 0 (omega arith); goes = g })
@@ -167,9 +167,9 @@ module _ (o : Options) (t strings blob : List ℕ) {why : Refusal} (e : opened o
       unfolding lineAt nextAt
       steps = at-place v from f (rw stop-is w)
 
-      pub refused-full : length b′ < s .at → Filled (pieceOf v (length b) from) b b′ (record { next = from; at = 0 })
+      pub refused-full : length b′ < s .at → Pieced (pieceOf v (length b) from) b b′ (record { next = from; at = 0 })
       refused-full h = going-full (going-start v b from mostSteps) steps h
 
-      pub refused-first : s .at ≤ length b′ → Filled (pieceOf v (length b) from) b b′ s
+      pub refused-first : s .at ≤ length b′ → Pieced (pieceOf v (length b) from) b b′ s
       refused-first h =
           going-done (going-on (going-start v b from mostSteps) steps (omega arith) refl (ap isDone f) h) refl (ap (λ (c : Cursor). isDone (c .place)) (w .goes))

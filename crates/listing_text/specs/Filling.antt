@@ -2,12 +2,12 @@
 use mathlib.Core.Path.{_≡_}
 use mathlib.Core.Bool.{Bool, true, false, cond}
 use mathlib.Core.List.{List, [], _++_}
-use Prim.Native.Nat.{ℕ, zero, suc, _+_}
+use Prim.Native.Nat.{ℕ, zero, suc, _+_, min}
 use lib.Dec.{leb}
 use lib.ListN.{length}
 use Rattle.buffers.specs.Texts.{Text}
 use Rattle.buffers.specs.Writes.{Wrote}
-use Rattle.buffers.specs.Replies.{Answer, refused, value}
+use Rattle.buffers.specs.Replies.{Answer, refused, value, nameBuffer}
 use Rattle.bundle.specs.Input.{Inputs, bundleOf, bundleSays}
 use Rattle.header.specs.Opening.{base}
 use Rattle.record.specs.View.{View, view}
@@ -61,7 +61,14 @@ answerPiece (refused n) room c = record { text = refusedLine n; next = done }
 unfoldable pub inputPiece : List ℕ → ℕ → Cursor → Piece
 inputPiece s room c = answerPiece (bundleSays s (bundleOf s)) room c
 
--- What a call for a piece does with a lent buffer: the text stands at its start, and the next cursor is handed out.
-pub record Filled (p : Piece) (before after : List ℕ) (s : Step) : Type 0 where
+-- A piece was appended to an empty buffer, and the next cursor is handed out.
+pub record Pieced (p : Piece) (before after : List ℕ) (s : Step) : Type 0 where
   pub wrote : Wrote before 0 (p .text) after (s .at)
+  pub goes : s .next ≡ p .next
+
+-- What a call for a piece does with a lent buffer: it holds the text and then zeros, or zeros alone where the text does not fit; and the
+-- bytes of the text are told, or one more than the buffer has.
+pub record Filled (p : Piece) (before after : List ℕ) (s : Step) : Type 0 where
+  pub used : s .at ≡ min (length (p .text)) (length before + 1)
+  pub buffer : after ≡ nameBuffer (value (p .text)) (length before)
   pub goes : s .next ≡ p .next

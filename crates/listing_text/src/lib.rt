@@ -19,7 +19,7 @@ ghost use Rattle.record.specs.View.{View, view};
 ghost use Rattle.rows.specs.Layout.{Laid, viewIn};
 ghost use Rattle.lines.specs.Cursors.{cursor, Stepped};
 ghost use Rattle.lines.specs.declared.Place.the-variants.{Done};
-ghost use Rattle.listing_text.specs.Filling.{isDone, pieceOf, inputPiece, Filled};
+ghost use Rattle.listing_text.specs.Filling.{isDone, pieceOf, Piece, inputPiece, Pieced, Filled};
 
 // Whether a listing is at its end.
 pub fn is_done(c: Cursor) -> bool
@@ -101,7 +101,7 @@ fn fill_opened(
 ) -> Step
     requires { ⌜ Laid (now tables) (now layout) ⌝ }
     requires { ⌜ ((s b : List ℕ) → viewIn (now tables) (now layout) s b ≡ view options (now tables) s b) ⌝ }
-    ensures { λ r. ⌜ Filled (pieceOf (view options (now (tables .entry)) (now (strings .entry)) (now (blob .entry))) (length (now (out .entry))) from) (now (out .entry)) (now (out .exit)) r ⌝ }
+    ensures { λ r. ⌜ Pieced (pieceOf (view options (now (tables .entry)) (now (strings .entry)) (now (blob .entry))) (length (now (out .entry))) from) (now (out .entry)) (now (out .exit)) r ⌝ }
 {
     let mut c = from;
     let mut at = 0;
@@ -124,7 +124,7 @@ fn fill_opened(
 
 // A stream that is refused has one line, at the first place.
 fn fill_refused(why: Refusal, from: Cursor, out: &mut [u8]) -> Step
-    ensures { λ r. ⌜ ((options : Opts) (tables strings blob : List ℕ) → opened options tables .answer ≡ Refused why → Filled (pieceOf (view options tables strings blob) (length (now (out .entry))) from) (now (out .entry)) (now (out .exit)) r) ⌝ }
+    ensures { λ r. ⌜ ((options : Opts) (tables strings blob : List ℕ) → opened options tables .answer ≡ Refused why → Pieced (pieceOf (view options tables strings blob) (length (now (out .entry))) from) (now (out .entry)) (now (out .exit)) r) ⌝ }
 {
     let place = from.place;
     match place {
@@ -144,7 +144,16 @@ fn fill_refused(why: Refusal, from: Cursor, out: &mut [u8]) -> Step
     }
 }
 
-// As many whole lines from a cursor on as the buffer holds. The stream is opened once, and its columns are looked through once.
+// End a piece: zeros behind its text.
+fn end_piece(s: Step, out: &mut [u8]) -> Step
+    ensures { λ r. ⌜ ((p : Piece) (b : List ℕ) → Pieced p b (now (out .entry)) s → Filled p b (now (out .exit)) r) ⌝ }
+{
+    let at = s.at;
+    buffers::finish(out, at);
+    s
+}
+
+// As many whole lines from a cursor on as the buffer holds, and then zeros. The stream is opened once, and its columns are looked through once.
 pub fn fill(
     tables: &[u8],
     strings: &[u8],
@@ -159,10 +168,14 @@ pub fn fill(
     let answer = found.answer;
     let mut layout = found.layout;
     match answer {
-        Opened::Refused(why) => fill_refused(why, from, out),
+        Opened::Refused(why) => {
+            let s = fill_refused(why, from, out);
+            end_piece(s, out)
+        }
         Opened::Ready => {
             marks::mark_columns(tables, &mut layout);
-            fill_opened(tables, strings, blob, options, &layout, from, out)
+            let s = fill_opened(tables, strings, blob, options, &layout, from, out);
+            end_piece(s, out)
         }
     }
 }
@@ -178,6 +191,9 @@ pub fn fill_input(input: &[u8], from: Cursor, out: &mut [u8]) -> Step
             let blob = numbers::cut(input, b.at, b.len);
             fill(tables, strings, blob, header::base_options(), from, out)
         }
-        Bundle::Malformed => lines::push_refused(out, 0, Refusal::BadInput),
+        Bundle::Malformed => {
+            let s = lines::push_refused(out, 0, Refusal::BadInput);
+            end_piece(s, out)
+        }
     }
 }

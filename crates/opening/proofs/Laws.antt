@@ -5,7 +5,7 @@ use mathlib.Core.List.{List}
 use Prim.Native.Nat.{ℕ, _<_}
 use native.Mathlib.Omega.{arith}
 use lib.Dec.{eqb}
-use lib.ListN.{length}
+use lib.ListN.{length, replicate}
 use Rattle.buffers.specs.declared.Refusal.{Refusal}
 use Rattle.header.specs.Opening.{opened}
 use Rattle.header.specs.declared.Options.{Options}
@@ -43,12 +43,13 @@ module _ (o : Options) (t : List ℕ) {l : List ℕ} (u : Unmarked (layoutOf o (
 
 -- The answer of opening, by what the code finds.
 module _ {o : Options} {t : List ℕ} {h : Header} (e : h ≡ opened o t) where
-  pub is-refused : {why : Refusal} {a : Opened} {l : List ℕ} → h .answer ≡ Refused why → a ≡ Refused why → OpenedAs o t a l
-  is-refused f g =
+  pub is-refused : {why : Refusal} {a : Opened} {l : List ℕ} → h .answer ≡ Refused why → (a ≡ Refused why) × (l ≡ replicate 97 0) → OpenedAs o t a l
+  is-refused f (g, z) =
       record {
         answer = g ∙ sym f ∙ ap (λ (x : Header). x .answer) e;
-        laid = λ r. let z : _≡_ {A = ℕ} 0 1 = cc in absurd (omega arith);
-        options = λ r. let z : _≡_ {A = ℕ} 0 1 = cc in absurd (omega arith);
+        laid = λ r. let no : _≡_ {A = ℕ} 0 1 = cc in absurd (omega arith);
+        options = λ r. let no : _≡_ {A = ℕ} 0 1 = cc in absurd (omega arith);
+        blank = λ _. z;
       }
 
   pub is-ready : {l : List ℕ} → h .answer ≡ Ready
@@ -58,7 +59,7 @@ module _ {o : Options} {t : List ℕ} {h : Header} (e : h ≡ opened o t) where
       let same : record { answer = Ready; heap = h .heap; first = h .first; counts = h .counts } ≡ opened o t = rw (← f) e in
       let is : opened o t .answer ≡ Ready = ap (λ (x : Header). x .answer) (sym e) ∙ f in
       let all : Unmarked (layoutOf o (opened o t) (length t)) l = rw same at g in
-      record { answer = sym is; laid = λ _. fresh o t all is n; options = λ _. said o t all }
+      record { answer = sym is; laid = λ _. fresh o t all is n; options = λ _. said o t all; blank = λ r. let z : _≡_ {A = ℕ} 0 1 = cc in absurd (omega arith) }
 
 -- What the calls cite of it.
 module _ {o : Options} {t : List ℕ} {a : Opened} {l : List ℕ} (c : OpenedAs o t a l) (r : a ≡ Ready) where

@@ -2,18 +2,20 @@
 use mathlib.Core.Path.{_≡_}
 use mathlib.Core.List.{List}
 use Prim.Native.Nat.{ℕ, _<_}
-use lib.ListN.{getD}
+use lib.ListN.{getD, replicate}
+use Rattle.buffers.specs.declared.Refusal.{Refusal}
 use Rattle.header.specs.Opening.{opened}
 use Rattle.header.specs.declared.Options.{Options}
 use Rattle.header.specs.declared.Opened.{Opened}
-use Rattle.header.specs.declared.Opened.the-variants.{Ready}
+use Rattle.header.specs.declared.Opened.the-variants.{Ready, Refused}
 use Rattle.rows.specs.Layout.{Laid, optionsIn, markAt}
 
--- Opening the tables stream t by the options o gives the answer a, and unless it is refused the layout l, which says the options.
+-- Opening the tables stream t by the options o gives the answer a, and the layout l, which says the options; zeros where it is refused.
 pub record OpenedAs (o : Options) (t : List ℕ) (a : Opened) (l : List ℕ) : Type 0 where
   pub answer : a ≡ opened o t .answer
   pub laid : a ≡ Ready → Laid t l
   pub options : a ≡ Ready → optionsIn l ≡ o
+  pub blank : {why : Refusal} → a ≡ Refused why → l ≡ replicate 97 0
 
 -- l begins with these numbers, those of a layout, and has no mark.
 pub record Unmarked (numbers l : List ℕ) : Type 0 where

@@ -7,6 +7,7 @@ ghost use mathlib.Core.Path.{_≡_};
 ghost use mathlib.Core.Bool.{cond, _&&_, not};
 ghost use Prim.Native.Nat.{_≤_, _<_};
 ghost use lib.Dec.{eqb};
+ghost use lib.ListN.{replicate};
 ghost use Rattle.header.specs.declared.Opened.the-variants.{Refused, Ready};
 ghost use Rattle.tables.specs.Extents.{onlyEntire};
 ghost use Rattle.rows.specs.Layout.{layoutOf};
@@ -99,7 +100,7 @@ fn lay(len: usize, first: usize, heap: u8, counts: &[u32; 64], options: Options)
 }
 
 fn refuse(why: Refusal) -> Opening
-    ensures { λ r. ⌜ r .answer ≡ Refused why ⌝ }
+    ensures { λ r. ⌜ (r .answer ≡ Refused why) × (r .layout ≡ replicate 97 0) ⌝ }
 {
     Opening {
         answer: Opened::Refused(why),

@@ -41,12 +41,23 @@ fill-opened-requires c κs =
     (m .laid, λ s b. marked-view m s b ∙ opened-view opened (told .enum-told .given .1) s b)
 
 -- src/lib.rt:155:1
+end-piece-requires : tie.Need-end-piece-requires
+end-piece-requires c κs = search needs
+
+-- src/lib.rt:155:1
 same-length : tie.Need-same-length
 same-length c = search needs
 
 -- src/lib.rt:155:1
 returns : tie.Need-returns
-returns c = c .before .before .fill-refused .ensures _ _ _ _ (sym (c .before .before .before .before .before .before .before .before .«open» .ensures .answer) ∙ c .before .before .before .before .before .answer .given .1)
+returns c =
+    let at-answer = c .before .before .before .before .before .before .before .before .before in
+    let opened = at-answer .before .before .before .«open» .ensures in
+    c .before .before .end-piece .ensures _ _ (c .before .before .before .before .before .before .fill-refused .ensures _ _ _ _ (sym (opened .answer) ∙ at-answer .answer .given .1))
+
+-- src/lib.rt:155:1
+end-piece-requires-2 : tie.Need-end-piece-requires-2
+end-piece-requires-2 c κs = search needs
 
 -- src/lib.rt:155:1
 same-length-2 : tie.Need-same-length-2
@@ -54,7 +65,7 @@ same-length-2 c = search needs
 
 -- src/lib.rt:155:1
 returns-2 : tie.Need-returns-2
-returns-2 c = search needs
+returns-2 c = c .before .before .end-piece2 .ensures _ _ (c .before .before .before .before .before .before .fill-opened .ensures)
 
 pub fill-spec : {M : Type 1} → statement M
 fill-spec =
@@ -63,9 +74,11 @@ fill-spec =
     open-requires
     enum-known-answer
     fill-refused-requires
+    end-piece-requires
     enum-told
     mark-columns-requires
     fill-opened-requires
+    end-piece-requires-2
     same-length
     returns
     same-length-2

@@ -50,6 +50,10 @@ push-refused-requires : tie.Need-push-refused-requires
 push-refused-requires c κs = search needs
 
 -- src/lib.rt:175:1
+end-piece-requires : tie.Need-end-piece-requires
+end-piece-requires c κs = search needs
+
+-- src/lib.rt:175:1
 same-length : tie.Need-same-length
 same-length c = search needs
 
@@ -71,7 +75,10 @@ same-length-2 c = search needs
 
 -- src/lib.rt:175:1
 returns-2 : tie.Need-returns-2
-returns-2 c = input-malformed _ _ _ (sym (c .before .before .before .before .enum-told .given .1) ∙ c .before .before .before .before .before .before .open-bundle .ensures) (c .before .before .push-refused .ensures)
+returns-2 c =
+    let told = c .before .before .before .before .before .before .before .before in
+    let is = sym (told .enum-told .given .1) ∙ told .before .before .open-bundle .ensures in
+    c .before .before .end-piece .ensures _ _ (input-malformed _ _ _ is (c .before .before .before .before .before .before .push-refused .ensures))
 
 pub fill-input-spec : {M : Type 1} → statement M
 fill-input-spec =
@@ -86,6 +93,7 @@ fill-input-spec =
     fill-requires
     enum-told
     push-refused-requires
+    end-piece-requires
     same-length
     returns
     same-length-2
