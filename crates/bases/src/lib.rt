@@ -2,6 +2,7 @@
 // those whose type has no name. Which have one is known only by rendering them, so a search renders each into the lent buffer.
 use buffers::Place;
 use classes::TypeDefRow;
+use numbers::wide;
 use rows::Layout;
 use rows::columns;
 use sig_leaves::LEVELS;
@@ -13,12 +14,6 @@ ghost use Rattle.buffers.specs.Writes.{Said, placeSays};
 ghost use Rattle.record.specs.Names.{typeNameIn, baseTypes};
 ghost use Rattle.rows.specs.Layout.{Laid, rowsAt, viewIn};
 ghost use Rattle.bases.specs.Candidates.{candidate, nextCandidate, isThere};
-
-fn wide(x: u32) -> usize
-    ensures { λ r. ⌜ r ≡ x ⌝ }
-{
-    x as usize
-}
 
 // The number of the candidate after i: number 0 is the extended type, and number i + 1 is row i of InterfaceImpl. No row before the first
 // is the class's own.

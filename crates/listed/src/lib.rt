@@ -5,6 +5,7 @@ use buffers::Reply;
 use classes::ClassNumber;
 use classes::TypeDefRow;
 use keys::Row;
+use numbers::wide;
 use rows::Layout;
 use rows::columns;
 ghost use mathlib.Core.Path.{_≡_};
@@ -26,12 +27,6 @@ pub enum ClassRow {
 pub enum MethodRow {
     Row(usize),
     NoRow,
-}
-
-fn wide(x: u32) -> usize
-    ensures { λ r. ⌜ r ≡ x ⌝ }
-{
-    x as usize
 }
 
 // How many classes there are: TypeDef row 1 is none.

@@ -1,6 +1,7 @@
 // Which methods a class has (`finalize`, where it drains the methods): the classes take theirs from the last to the first, each by its
 // MethodList column (ECMA-335 II.22.37), of what those after it have left.
 use classes::TypeDefRow;
+use numbers::wide;
 use rows::columns;
 ghost use mathlib.Core.Path.{_≡_};
 ghost use mathlib.Core.List.{List};
@@ -13,12 +14,6 @@ ghost use Rattle.methods.specs.Ranges.{RangeOf};
 pub struct Range {
     pub first: usize,
     pub end: usize,
-}
-
-fn wide(x: u32) -> usize
-    ensures { λ r. ⌜ r ≡ x ⌝ }
-{
-    x as usize
 }
 
 // How many methods are left once a class with this MethodList column has taken its own.

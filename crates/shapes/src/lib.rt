@@ -2,6 +2,7 @@
 // runs of tags that keep the level before a type, each 0x1D of which is a pair of brackets behind the type's text.
 use numbers::Sint;
 use numbers::Uint;
+use numbers::wide;
 use rendering::Rendering;
 ghost use mathlib.Core.Path.{_≡_};
 ghost use mathlib.Core.List.{_++_};
@@ -49,12 +50,6 @@ pub enum Tag {
 pub enum Run {
     Over(usize, usize),
     Broken(usize),
-}
-
-fn wide(x: u32) -> usize
-    ensures { λ r. ⌜ r ≡ x ⌝ }
-{
-    x as usize
 }
 
 // Append a number other than 0 with its sign.

@@ -4,6 +4,7 @@ use buffers::Place;
 use heaps::Part;
 use keys::Row;
 use numbers::Uint;
+use numbers::wide;
 use rendering::Rendering;
 use rows::Layout;
 use rows::columns;
@@ -32,12 +33,6 @@ pub enum Owner {
 pub enum Blob {
     At { start: usize, len: usize },
     Missing,
-}
-
-fn wide(x: u32) -> usize
-    ensures { λ r. ⌜ r ≡ x ⌝ }
-{
-    x as usize
 }
 
 // Append the text of a type that is its tag alone (II.23.1.16); any other tag has none.

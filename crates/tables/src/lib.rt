@@ -3,6 +3,7 @@
 use buffers::Refusal;
 use buffers::Reply;
 use layouts::IndexSizes;
+use numbers::wide;
 ghost use mathlib.Core.Path.{_≡_};
 ghost use Prim.Native.Nat.{ℕ, _-_, _/_, _≤_, _<_, min};
 ghost use Rattle.buffers.specs.Replies.{number};
@@ -16,12 +17,6 @@ pub struct Extents {
     pub starts: [usize; 64],
     pub sizes: [u32; 64],
     pub rows: [u32; 64],
-}
-
-fn wide(x: u32) -> usize
-    ensures { λ r. ⌜ r ≡ x ⌝ }
-{
-    x as usize
 }
 
 // The rows of a size that fit in the room, up to n.

@@ -13,7 +13,7 @@ use Rattle.bases.proofs.count_bases.Reads as reads
 use Rattle.bases.proofs.count_bases.Lts as lts
 use Rattle.bases.proofs.has_name.Reads as has-name-reads
 use Rattle.bases.proofs.next_candidate.Reads as next-candidate-reads
-use Rattle.bases.proofs.wide.Reads as wide-reads
+use Rattle.numbers.proofs.wide.Reads as wide-reads
 use Rattle.keys.proofs.key_rows.Reads as key-rows-reads
 
 abbrev Inv-loop : tie.InvT-loop
@@ -83,7 +83,7 @@ loop-again c =
       l .inv .2,
       omega (arith, l .inv .3, next .0),
       l .inv .4,
-      own-next (start .pre .0) _ _ _ (start .pre .1 .0) (keyed .before .wide .ensures) (keyed .key-rows .ensures) (l .i) (c .before .next-candidate .ensures)
+      own-next (start .pre .0) _ _ _ (start .pre .1 .0) (keyed .before .wide .ensures .0) (keyed .key-rows .ensures) (l .i) (c .before .next-candidate .ensures)
           (name-met _ (l .i) (l .inv .5) (sym (c .if1 .taken) ∙ tried .has-name .ensures)),
     )
 
@@ -107,7 +107,7 @@ loop-again-2 c =
       l .inv .2,
       omega (arith, l .inv .3, next .0),
       l .inv .4,
-      own-next (start .pre .0) _ _ _ (start .pre .1 .0) (keyed .before .wide .ensures) (keyed .key-rows .ensures) (l .i) (c .before .next-candidate .ensures)
+      own-next (start .pre .0) _ _ _ (start .pre .1 .0) (keyed .before .wide .ensures .0) (keyed .key-rows .ensures) (l .i) (c .before .next-candidate .ensures)
           (name-passed _ (l .i) (l .inv .5) (sym (c .if1 .left) ∙ tried .has-name .ensures)),
     )
 
@@ -117,7 +117,7 @@ returns c =
     let l = c .before .loop in
     let keyed = c .before .before .before in
     let start = keyed .before .before .before .before .before in
-    let all = own-all (start .pre .0) _ _ _ (start .pre .1 .0) (keyed .before .wide .ensures) (keyed .key-rows .ensures) {i = l .i} (omega (arith, c .loop-test .left, l .inv .0)) (l .inv .5) in
+    let all = own-all (start .pre .0) _ _ _ (start .pre .1 .0) (keyed .before .wide .ensures .0) (keyed .key-rows .ensures) {i = l .i} (omega (arith, c .loop-test .left, l .inv .0)) (l .inv .5) in
     bases-counted (start .pre .0) _ _ _ (start .pre .1 .0) (start .pre .1 .1) _ _ refl all refl
 
 pub count-bases-spec : {M : Type 1} → statement M

@@ -14,7 +14,7 @@ use Rattle.bases.proofs.render_base.Reads as reads
 use Rattle.bases.proofs.render_base.Lts as lts
 use Rattle.bases.proofs.next_candidate.Reads as next-candidate-reads
 use Rattle.bases.proofs.render_candidate.Reads as render-candidate-reads
-use Rattle.bases.proofs.wide.Reads as wide-reads
+use Rattle.numbers.proofs.wide.Reads as wide-reads
 use Rattle.keys.proofs.key_rows.Reads as key-rows-reads
 
 abbrev Inv-loop : tie.InvT-loop
@@ -115,7 +115,7 @@ loop-again c =
       omega (arith, l .inv .4, c .if1 .left),
       l .inv .5,
       rendered .render-candidate .kept .0 ∙ l .inv .6,
-      own-next (start .pre .0) _ _ _ (start .pre .1 .0) (keyed .before .wide .ensures) (keyed .key-rows .ensures) (l .i) (next .next-candidate .ensures)
+      own-next (start .pre .0) _ _ _ (start .pre .1 .0) (keyed .before .wide .ensures .0) (keyed .key-rows .ensures) (l .i) (next .next-candidate .ensures)
           (name-met _ (l .i) (l .inv .7) (there-some said)),
     )
 
@@ -150,7 +150,7 @@ loop-again-2 c =
       l .inv .4,
       l .inv .5,
       rendered .render-candidate .kept .0 ∙ l .inv .6,
-      own-next (start .pre .0) _ _ _ (start .pre .1 .0) (keyed .before .wide .ensures) (keyed .key-rows .ensures) (l .i) (next .next-candidate .ensures)
+      own-next (start .pre .0) _ _ _ (start .pre .1 .0) (keyed .before .wide .ensures .0) (keyed .key-rows .ensures) (l .i) (next .next-candidate .ensures)
           (name-passed _ (l .i) (l .inv .7) (there-none said)),
     )
 
@@ -164,7 +164,7 @@ returns-2 c =
     let l = c .before .loop in
     let keyed = c .before .before .before in
     let start = keyed .before .before .before .before .before .before in
-    let all = own-all (start .pre .0) _ _ _ (start .pre .1 .0) (keyed .before .wide .ensures) (keyed .key-rows .ensures) {i = l .i} (omega (arith, c .loop-test .left, l .inv .0)) (l .inv .7) in
+    let all = own-all (start .pre .0) _ _ _ (start .pre .1 .0) (keyed .before .wide .ensures .0) (keyed .key-rows .ensures) {i = l .i} (omega (arith, c .loop-test .left, l .inv .0)) (l .inv .7) in
     base-past (start .pre .0) _ _ _ (start .pre .1 .0) (start .pre .1 .1) _ _ refl all _ (l .inv .6) refl (l .inv .4)
 
 pub render-base-spec : {M : Type 1} → statement M

@@ -8,7 +8,7 @@ use Rattle.bases.proofs.render_candidate.Tie as tie
 use Rattle.bases.proofs.render_candidate.Reads as reads
 use Rattle.bases.proofs.render_candidate.Lts as lts
 use Rattle.bases.proofs.render_type.Reads as render-type-reads
-use Rattle.bases.proofs.wide.Reads as wide-reads
+use Rattle.numbers.proofs.wide.Reads as wide-reads
 use Rattle.rows.proofs.read_column.Reads as read-column-reads
 
 -- src/lib.rt:77:21
@@ -23,7 +23,7 @@ sub-place c = search needs
 read-column-requires : tie.Need-read-column-requires
 read-column-requires c κs =
     let s = c .before .before .before .before .before .before in
-    (s .pre .0, (omega arith, omega (arith, c .wide .ensures, s .pre .1 .0, s .pre .1 .1, same-rows (s .pre .0) 3 5 (omega arith) (omega arith) refl)))
+    (s .pre .0, (omega arith, omega (arith, c .wide .ensures .0, s .pre .1 .0, s .pre .1 .1, same-rows (s .pre .0) 3 5 (omega arith) (omega arith) refl)))
 
 -- src/lib.rt:79:9
 render-type-requires : tie.Need-render-type-requires
@@ -37,7 +37,7 @@ same-length c = search needs
 returns : tie.Need-returns
 returns c =
     let s = c .before .before .before .before .before .before .before .before .before .before .before in
-    said-extended (s .pre .0) _ _ _ (s .pre .1 .0) _ _ (c .before .before .before .before .before .before .if1 .taken) (omega (arith, c .before .before .before .before .before .wide .ensures)) (c .before .before .before .before .read-column .ensures) (c .before .before .render-type .ensures)
+    said-extended (s .pre .0) _ _ _ (s .pre .1 .0) _ _ (c .before .before .before .before .before .before .if1 .taken) (omega (arith, c .before .before .before .before .before .wide .ensures .0)) (c .before .before .before .before .read-column .ensures) (c .before .before .render-type .ensures)
 
 -- src/lib.rt:81:63
 sub-read-column : tie.Need-sub-read-column

@@ -6,7 +6,7 @@ use Rattle.bases.proofs.render_type.Statement.{statement}
 use Rattle.bases.proofs.render_type.Tie as tie
 use Rattle.bases.proofs.render_type.Reads as reads
 use Rattle.bases.proofs.render_type.Lts as lts
-use Rattle.bases.proofs.wide.Reads as wide-reads
+use Rattle.numbers.proofs.wide.Reads as wide-reads
 use Rattle.signatures.proofs.get_type_fullname.Reads as get-type-fullname-reads
 
 -- src/lib.rt:47:31
@@ -29,7 +29,7 @@ same-length c = search needs
 returns : tie.Need-returns
 returns c =
     let s = c .before .before .before .before .before .before .before .before .before in
-    rw (type-name (s .pre .0) (s .args .strings .now) (s .args .blob .now) (s .args .row .0) (s .pre .1) _ (s .args .index) (ap (λ (n : ℕ). 2 * n) (c .before .before .before .before .wide .ensures)))
+    rw (type-name (s .pre .0) (s .args .strings .now) (s .args .blob .now) (s .args .row .0) (s .pre .1) _ (s .args .index) (ap (λ (n : ℕ). 2 * n) (c .before .before .before .before .wide .ensures .0)))
     at (c .before .before .get-type-fullname .ensures)
 
 pub render-type-spec : {M : Type 1} → statement M

@@ -10,7 +10,7 @@ use Rattle.listed.proofs.method_row.Tie as tie
 use Rattle.listed.proofs.method_row.Reads as reads
 use Rattle.listed.proofs.method_row.Lts as lts
 use Rattle.listed.proofs.class_row.Reads as class-row-reads
-use Rattle.listed.proofs.wide.Reads as wide-reads
+use Rattle.numbers.proofs.wide.Reads as wide-reads
 use Rattle.methods.proofs.method_range.Reads as method-range-reads
 
 -- src/lib.rt:64:11
@@ -37,7 +37,7 @@ add-place : tie.Need-add-place
 add-place c =
     let range = c .before .before .method-range .ensures [] [] in
     let laid = c .before .before .before .before .before .before .before .before .pre in
-    omega (arith, range .order, range .inside, methods-narrow laid [] [], c .before .wide .ensures)
+    omega (arith, range .order, range .inside, methods-narrow laid [] [], c .before .wide .ensures .0)
 
 -- src/lib.rt:69:17
 returns : tie.Need-returns
@@ -46,7 +46,7 @@ returns c = λ strings blob.
     let at = class-found (found .class-row .ensures) (c .before .before .before .before .before .before .row .given .1) in
     let s = found .before .before in
     method-past (viewIn (s .args .tables .now) (s .args .layout .now) strings blob) _ (listed (s .pre) strings blob _ (at .1)) (range-of (at .0) (c .before .before .before .before .method-range .ensures strings blob)) _
-    (omega (arith, c .before .before .before .wide .ensures))
+    (omega (arith, c .before .before .before .wide .ensures .0))
 
 -- src/lib.rt:73:28
 enum-told : tie.Need-enum-told
@@ -59,7 +59,7 @@ returns-2 c = λ strings blob.
     let at = class-found (found .class-row .ensures) (c .before .before .before .before .before .before .row .given .1) in
     let s = found .before .before in
     method-there (viewIn (s .args .tables .now) (s .args .layout .now) strings blob) _ (listed (s .pre) strings blob _ (at .1)) (range-of (at .0) (c .before .before .before .before .method-range .ensures strings blob)) _
-    (omega (arith, c .before .before .before .wide .ensures)) (omega arith)
+    (omega (arith, c .before .before .before .wide .ensures .0)) (omega arith)
 
 -- src/lib.rt:60:1
 returns-3 : tie.Need-returns-3

@@ -9,7 +9,7 @@ use Rattle.listed.proofs.write_generic.Reads as reads
 use Rattle.listed.proofs.write_generic.Lts as lts
 use Rattle.buffers.proofs.refuse.Reads as refuse-reads
 use Rattle.keys.proofs.find_key.Reads as find-key-reads
-use Rattle.listed.proofs.wide.Reads as wide-reads
+use Rattle.numbers.proofs.wide.Reads as wide-reads
 use Rattle.rows.proofs.write_string.Reads as write-string-reads
 
 -- src/lib.rt:97:65
@@ -46,7 +46,7 @@ same-length c = search needs
 returns : tie.Need-returns
 returns c = λ blob.
     let find = c .before .before .before .before .before .before .before in
-    named-generic (c .before .before .before .before .before .before .before .before .before .before .before .before .pre) _ blob _ (find .before .wide .ensures) (find .find-key .ensures) (c .before .before .before .before .before .i .given .1) (c .before .before .write-string .ensures)
+    named-generic (c .before .before .before .before .before .before .before .before .before .before .before .before .pre) _ blob _ (find .before .wide .ensures .0) (find .find-key .ensures) (c .before .before .before .before .before .i .given .1) (c .before .before .write-string .ensures)
 
 -- src/lib.rt:86:1
 same-length-2 : tie.Need-same-length-2
@@ -56,7 +56,7 @@ same-length-2 c = search needs
 returns-2 : tie.Need-returns-2
 returns-2 c = λ blob.
     let find = c .before .before .before .before .before .before in
-    named-no-generic (c .before .before .before .before .before .before .before .before .before .before .before .pre) _ blob _ (find .before .wide .ensures) (find .find-key .ensures) (c .before .before .before .before .enum-told .given .1) (c .before .before .refuse .ensures)
+    named-no-generic (c .before .before .before .before .before .before .before .before .before .before .before .pre) _ blob _ (find .before .wide .ensures .0) (find .find-key .ensures) (c .before .before .before .before .enum-told .given .1) (c .before .before .refuse .ensures)
 
 pub write-generic-spec : {M : Type 1} → statement M
 write-generic-spec =

@@ -6,7 +6,7 @@ use Rattle.methods.proofs.method_range.Reads as reads
 use Rattle.methods.proofs.method_range.Lts as lts
 use Rattle.methods.proofs.left_after.Reads as left-after-reads
 use Rattle.methods.proofs.take_from.Reads as take-from-reads
-use Rattle.methods.proofs.wide.Reads as wide-reads
+use Rattle.numbers.proofs.wide.Reads as wide-reads
 use Rattle.rows.proofs.read_column.Reads as read-column-reads
 
 -- src/lib.rt:76:9
@@ -36,7 +36,7 @@ returns c strings blob =
     let left = read .before in
     let widened = left .before in
     let start = widened .before .before in
-    range-is (start .pre .0) strings blob (start .args .row .0) (widened .wide .ensures) (start .pre .1 .0) (start .pre .1 .1)
+    range-is (start .pre .0) strings blob (start .args .row .0) (widened .wide .ensures .0) (start .pre .1 .0) (start .pre .1 .1)
     (read .read-column .ensures) (left .left-after .ensures strings blob) (c .take-from .ensures)
 
 pub method-range-spec : {M : Type 1} → statement M

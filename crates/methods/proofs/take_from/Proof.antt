@@ -4,7 +4,7 @@ use Rattle.methods.proofs.take_from.Statement.{statement}
 use Rattle.methods.proofs.take_from.Tie as tie
 use Rattle.methods.proofs.take_from.Reads as reads
 use Rattle.methods.proofs.take_from.Lts as lts
-use Rattle.methods.proofs.wide.Reads as wide-reads
+use Rattle.numbers.proofs.wide.Reads as wide-reads
 
 -- src/lib.rt:29:9
 returns : tie.Need-returns
@@ -20,11 +20,11 @@ wide-requires c κs = search needs
 
 -- src/lib.rt:25:1
 returns-2 : tie.Need-returns-2
-returns-2 c = takes-rest _ _ (c .before .before .if1 .left) (c .before .wide .ensures) (c .if2 .taken)
+returns-2 c = takes-rest _ _ (c .before .before .if1 .left) (c .before .wide .ensures .0) (c .if2 .taken)
 
 -- src/lib.rt:25:1
 returns-3 : tie.Need-returns-3
-returns-3 c = takes-past _ _ (c .before .before .if1 .left) (c .before .wide .ensures) (c .if2 .left)
+returns-3 c = takes-past _ _ (c .before .before .if1 .left) (c .before .wide .ensures .0) (c .if2 .left)
 
 pub take-from-spec : {M : Type 1} → statement M
 take-from-spec = tie.close (tie.spec returns sub-wide wide-requires returns-2 returns-3)

@@ -7,7 +7,7 @@ use Rattle.shapes.proofs.find_items.Reads as reads
 use Rattle.shapes.proofs.find_items.Lts as lts
 use Rattle.numbers.proofs.read_uint.Reads as read-uint-reads
 use Rattle.shapes.proofs.pass_items.Reads as pass-items-reads
-use Rattle.shapes.proofs.wide.Reads as wide-reads
+use Rattle.numbers.proofs.wide.Reads as wide-reads
 
 -- src/lib.rt:229:11
 read-uint-requires : tie.Need-read-uint-requires
@@ -44,7 +44,7 @@ returns c =
     let at-n = at-pass-items .before .before .before in
     let at-read-uint = at-n .before .before in
     let count = is-number (at-read-uint .read-uint .ensures) (at-n .n .given .1) in
-    finds-all count _ (at-pass-items .before .wide .ensures) (at-pass-items .pass-items .ensures) (c .before .next .given .1)
+    finds-all count _ (at-pass-items .before .wide .ensures .0) (at-pass-items .pass-items .ensures) (c .before .next .given .1)
 
 -- src/lib.rt:226:1
 returns-2 : tie.Need-returns-2
@@ -53,7 +53,7 @@ returns-2 c =
     let at-n = at-pass-items .before .before .before in
     let at-read-uint = at-n .before .before in
     let count = is-number (at-read-uint .read-uint .ensures) (at-n .n .given .1) in
-    finds-cut count _ (at-pass-items .before .wide .ensures) (at-pass-items .pass-items .ensures) (c .before .next2 .given .1)
+    finds-cut count _ (at-pass-items .before .wide .ensures .0) (at-pass-items .pass-items .ensures) (c .before .next2 .given .1)
 
 -- src/lib.rt:226:1
 returns-3 : tie.Need-returns-3

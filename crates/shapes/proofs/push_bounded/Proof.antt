@@ -9,7 +9,7 @@ use Rattle.buffers.proofs.push.Reads as push-reads
 use Rattle.shapes.proofs.push_signed.Reads as push-signed-reads
 use Rattle.shapes.proofs.push_size.Reads as push-size-reads
 use Rattle.shapes.proofs.push_upper.Reads as push-upper-reads
-use Rattle.shapes.proofs.wide.Reads as wide-reads
+use Rattle.numbers.proofs.wide.Reads as wide-reads
 
 -- src/lib.rt:103:9
 push-size-requires : tie.Need-push-size-requires
@@ -70,7 +70,7 @@ returns-2 c =
     let at-args = at-if1 .before .before in
     let low = at-push-signed .push-signed .ensures in
     let dots = at-push .push .ensures in
-    bounded-closed (at-args .args .minus) (at-push-signed .before .wide .ensures) (pos-of-ne-zero (at-if1 .if1 .left)) low dots
+    bounded-closed (at-args .args .minus) (at-push-signed .before .wide .ensures .0) (pos-of-ne-zero (at-if1 .if1 .left)) low dots
     (at-size .size .given .1) (at-push-upper .push-upper .ensures)
 
 -- src/lib.rt:99:1
@@ -86,7 +86,7 @@ returns-3 c =
     let at-args = at-if1 .before .before in
     let low = at-push-signed .push-signed .ensures in
     let dots = at-push .push .ensures in
-    bounded-open (at-args .args .minus) (at-push-signed .before .wide .ensures) (pos-of-ne-zero (at-if1 .if1 .left)) low dots
+    bounded-open (at-args .args .minus) (at-push-signed .before .wide .ensures .0) (pos-of-ne-zero (at-if1 .if1 .left)) low dots
     (c .enum-told .given .1)
 
 pub push-bounded-spec : {M : Type 1} → statement M

@@ -10,7 +10,7 @@ use Rattle.buffers.proofs.push.Reads as push-reads
 use Rattle.numbers.proofs.read_uint.Reads as read-uint-reads
 use Rattle.shapes.proofs.find_items.Reads as find-items-reads
 use Rattle.shapes.proofs.push_dims.Reads as push-dims-reads
-use Rattle.shapes.proofs.wide.Reads as wide-reads
+use Rattle.numbers.proofs.wide.Reads as wide-reads
 
 -- src/lib.rt:245:11
 read-uint-requires : tie.Need-read-uint-requires
@@ -82,7 +82,7 @@ returns c =
     let ranked = is-number (at-read-uint .read-uint .ensures) (at-rank .rank .given .1) in
     rendered-some
     (shape-is _ _ _ _ ranked (at-find-items .find-items .ensures) (at-sizes .sizes .given .1) (at-find-items2 .find-items2 .ensures) (at-bounds .bounds .given .1) _
-    (at-push-dims .before .wide .ensures))
+    (at-push-dims .before .wide .ensures .0))
     (wrote-then (at-push .push .ensures) (at-push-dims .push-dims .ensures))
 
 -- src/lib.rt:242:1

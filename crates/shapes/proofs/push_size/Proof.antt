@@ -6,7 +6,7 @@ use Rattle.shapes.proofs.push_size.Reads as reads
 use Rattle.shapes.proofs.push_size.Lts as lts
 use Rattle.buffers.proofs.push.Reads as push-reads
 use Rattle.buffers.proofs.push_decimal.Reads as push-decimal-reads
-use Rattle.shapes.proofs.wide.Reads as wide-reads
+use Rattle.numbers.proofs.wide.Reads as wide-reads
 
 -- src/lib.rt:93:22
 enum-known-size : tie.Need-enum-known-size
@@ -41,7 +41,7 @@ returns : tie.Need-returns
 returns c =
     let at-push-decimal = c .before .before in
     let at-size = at-push-decimal .before .before .before .before in
-    size-some (at-size .size .given .1) (at-push-decimal .before .wide .ensures) (at-push-decimal .push-decimal .ensures)
+    size-some (at-size .size .given .1) (at-push-decimal .before .wide .ensures .0) (at-push-decimal .push-decimal .ensures)
 
 -- src/lib.rt:89:1
 same-length-2 : tie.Need-same-length-2

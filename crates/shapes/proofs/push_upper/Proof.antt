@@ -7,7 +7,7 @@ use Rattle.shapes.proofs.push_upper.Reads as reads
 use Rattle.shapes.proofs.push_upper.Lts as lts
 use Rattle.buffers.proofs.push_decimal.Reads as push-decimal-reads
 use Rattle.shapes.proofs.push_signed.Reads as push-signed-reads
-use Rattle.shapes.proofs.wide.Reads as wide-reads
+use Rattle.numbers.proofs.wide.Reads as wide-reads
 
 -- src/lib.rt:77:9
 wide-requires : tie.Need-wide-requires
@@ -40,8 +40,8 @@ returns c =
     let at-if1 = at-push-decimal .before .before in
     let at-wide = at-if1 .before .before in
     let at-args = at-wide .before .before in
-    let low = at-wide .wide .ensures in
-    let size = at-if1 .before .wide2 .ensures in
+    let low = at-wide .wide .ensures .0 in
+    let size = at-if1 .before .wide2 .ensures .0 in
     upper-plus (at-args .args .minus) low size (at-args .pre) (not-true _ (at-if1 .if1 .taken)) (at-push-decimal .push-decimal .ensures)
 
 -- src/lib.rt:83:47
@@ -67,8 +67,8 @@ returns-2 c =
     let at-if2 = at-push-decimal2 .before .before in
     let at-wide2 = at-if2 .before .before in
     let at-args = at-wide2 .before .before .before in
-    let low = at-wide2 .before .wide .ensures in
-    let size = at-wide2 .wide2 .ensures in
+    let low = at-wide2 .before .wide .ensures .0 in
+    let size = at-wide2 .wide2 .ensures .0 in
     upper-far (at-args .args .minus) low size (at-args .pre) (not-false _ (at-if2 .before .if1 .left)) (at-if2 .if2 .taken) (at-push-decimal2 .push-decimal2 .ensures)
 
 -- src/lib.rt:85:32
@@ -94,8 +94,8 @@ returns-3 c =
     let at-if2 = at-push-signed .before .before in
     let at-wide2 = at-if2 .before .before in
     let at-args = at-wide2 .before .before .before in
-    let low = at-wide2 .before .wide .ensures in
-    let size = at-wide2 .wide2 .ensures in
+    let low = at-wide2 .before .wide .ensures .0 in
+    let size = at-wide2 .wide2 .ensures .0 in
     upper-near (at-args .args .minus) low size (at-args .pre) (not-false _ (at-if2 .before .if1 .left)) (at-if2 .if2 .left) (at-push-signed .push-signed .ensures)
 
 pub push-upper-spec : {M : Type 1} → statement M

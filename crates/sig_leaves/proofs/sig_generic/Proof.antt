@@ -7,7 +7,7 @@ use Rattle.sig_leaves.proofs.sig_generic.Reads as reads
 use Rattle.sig_leaves.proofs.sig_generic.Lts as lts
 use Rattle.numbers.proofs.read_uint.Reads as read-uint-reads
 use Rattle.sig_leaves.proofs.push_generic.Reads as push-generic-reads
-use Rattle.sig_leaves.proofs.wide.Reads as wide-reads
+use Rattle.numbers.proofs.wide.Reads as wide-reads
 
 -- src/lib.rt:181:11
 read-uint-requires : tie.Need-read-uint-requires
@@ -46,7 +46,7 @@ returns : tie.Need-returns
 returns c = λ blob.
     let pushed = c .before .before .before .before .before in
     let read = pushed .before .before .before .before in
-    generic-done _ _ _ (read .before .before .read-uint .ensures) (read .i .given .1) (pushed .before .wide .ensures) (pushed .push-generic .ensures blob) (c .before .end .given .1)
+    generic-done _ _ _ (read .before .before .read-uint .ensures) (read .i .given .1) (pushed .before .wide .ensures .0) (pushed .push-generic .ensures blob) (c .before .end .given .1)
 
 -- src/lib.rt:168:1
 same-length-2 : tie.Need-same-length-2
@@ -57,7 +57,7 @@ returns-2 : tie.Need-returns-2
 returns-2 c = λ blob.
     let pushed = c .before .before .before .before in
     let read = pushed .before .before .before .before in
-    generic-missing _ _ _ (read .before .before .read-uint .ensures) (read .i .given .1) (pushed .before .wide .ensures) (pushed .push-generic .ensures blob) (c .enum-told .given .1)
+    generic-missing _ _ _ (read .before .before .read-uint .ensures) (read .i .given .1) (pushed .before .wide .ensures .0) (pushed .push-generic .ensures blob) (c .enum-told .given .1)
 
 -- src/lib.rt:168:1
 returns-3 : tie.Need-returns-3

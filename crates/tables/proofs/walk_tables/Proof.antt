@@ -16,7 +16,7 @@ use Rattle.tables.proofs.walk_tables.Reads as reads
 use Rattle.tables.proofs.walk_tables.Lts as lts
 use Rattle.layouts.proofs.rows.row_sizes.Reads as row-sizes-reads
 use Rattle.tables.proofs.whole_rows.Reads as whole-rows-reads
-use Rattle.tables.proofs.wide.Reads as wide-reads
+use Rattle.numbers.proofs.wide.Reads as wide-reads
 
 abbrev sizeIn : List ℕ → ℕ → ℕ
 sizeIn row-sizes k = getD row-sizes k 0
@@ -117,7 +117,7 @@ mul-at c =
     let l = t .before .before .before .before in
     let h = room _ _ _ _ _ _ _ _ _ (l .loop .inv) (t .before .before .before .if1 .left) (t .before .if2 .taken) (t .if3 .left) _ _ refl (q .before .whole-rows .ensures)
     (size-some _ _ (l .before .row-sizes .ensures) (l .before .before .pre .1) _ (t .if3 .left)) (q .if4 .left) in
-    rw (c .before .wide .ensures, c .wide2 .ensures) (omega (arith, h, l .loop .inv .within, l .before .before .fits .len))
+    rw (c .before .wide .ensures .0, c .wide2 .ensures .0) (omega (arith, h, l .loop .inv .within, l .before .before .fits .len))
 
 -- src/lib.rt:77:13
 add-at : tie.Need-add-at Inv-loop μ-loop
@@ -127,7 +127,7 @@ add-at c =
     let l = t .before .before .before .before in
     let h = room _ _ _ _ _ _ _ _ _ (l .loop .inv) (t .before .before .before .if1 .left) (t .before .if2 .taken) (t .if3 .left) _ _ refl (q .before .whole-rows .ensures)
     (size-some _ _ (l .before .row-sizes .ensures) (l .before .before .pre .1) _ (t .if3 .left)) (q .if4 .left) in
-    rw (c .before .wide .ensures, c .wide2 .ensures) (omega (arith, h, l .loop .inv .within, l .before .before .fits .len))
+    rw (c .before .wide .ensures .0, c .wide2 .ensures .0) (omega (arith, h, l .loop .inv .within, l .before .before .fits .len))
 
 -- src/lib.rt:79:9
 add-kind : tie.Need-add-kind Inv-loop μ-loop
@@ -144,7 +144,7 @@ loop-again c =
     let l = a .before .before in
     ⊎-elim
     (λ w.
-    rw (w .6, w .7, w .8, w .9, w .4 .ensures, w .5 .ensures)
+    rw (w .6, w .7, w .8, w .9, w .4 .ensures .0, w .5 .ensures .0)
     (taken _ _ _ _ _ _ _ _ _ (l .loop .inv) (a .before .if1 .left) (w .0 .taken) (w .1 .left) _ _ refl (w .2 .ensures)
     (size-some _ _ (l .before .row-sizes .ensures) (l .before .before .pre .1) _ (w .1 .left)) (w .3 .left)))
     (λ w. rw (w .1, w .2, w .3, w .4) (skipped _ _ _ _ _ _ _ _ _ (l .loop .inv) (a .before .if1 .left) (w .0 .left)))

@@ -5,7 +5,7 @@ use Rattle.tables.proofs.whole_rows.Statement.{statement}
 use Rattle.tables.proofs.whole_rows.Tie as tie
 use Rattle.tables.proofs.whole_rows.Reads as reads
 use Rattle.tables.proofs.whole_rows.Lts as lts
-use Rattle.tables.proofs.wide.Reads as wide-reads
+use Rattle.numbers.proofs.wide.Reads as wide-reads
 
 -- src/lib.rt:32:8
 wide-requires : tie.Need-wide-requires
@@ -21,7 +21,7 @@ mul-if1 c = omega (arith, product-fits (c .before .wide .result) (c .wide2 .resu
 
 -- src/lib.rt:33:9
 returns : tie.Need-returns
-returns c = all-fit _ _ _ _ _ (c .before .before .wide .ensures) (c .before .wide2 .ensures) (c .before .before .before .pre) (c .if1 .taken)
+returns c = all-fit _ _ _ _ _ (c .before .before .wide .ensures .0) (c .before .wide2 .ensures .0) (c .before .before .before .pre) (c .if1 .taken)
 
 -- src/lib.rt:35:13
 wide-requires-3 : tie.Need-wide-requires-3
@@ -35,13 +35,13 @@ div-result c = search needs
 cast-result : tie.Need-cast-result
 cast-result c =
     let l = c .before .before .before in
-    omega (arith, few-fit _ _ _ _ _ (l .wide .ensures) (c .before .before .wide2 .ensures) (l .before .pre) _ (c .wide3 .ensures) (c .before .if1 .left))
+    omega (arith, few-fit _ _ _ _ _ (l .wide .ensures .0) (c .before .before .wide2 .ensures .0) (l .before .pre) _ (c .wide3 .ensures .0) (c .before .if1 .left))
 
 -- src/lib.rt:28:1
 returns-2 : tie.Need-returns-2
 returns-2 c =
     let l = c .before .before .before in
-    least-fit _ _ _ _ _ (l .wide .ensures) (c .before .before .wide2 .ensures) (l .before .pre) _ (c .wide3 .ensures) (c .before .if1 .left)
+    least-fit _ _ _ _ _ (l .wide .ensures .0) (c .before .before .wide2 .ensures .0) (l .before .pre) _ (c .wide3 .ensures .0) (c .before .if1 .left)
 
 pub whole-rows-spec : {M : Type 1} → statement M
 whole-rows-spec =
