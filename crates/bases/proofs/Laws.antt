@@ -23,8 +23,9 @@ use Rattle.record.specs.Columns.{extends, implClass, implInterface}
 use Rattle.layouts.specs.Kinds.{interfaceImpl}
 use Rattle.record.specs.View.{View, viewOf, sideRow}
 use Rattle.record.specs.Types.{typeFullName, type}
-use Rattle.record.specs.Names.{numberIn, classRow, sizesOf, typeNameIn, baseTypes}
+use Rattle.record.specs.Names.{numberIn, classRow, sizesOf, levels, typeNameIn, baseTypes}
 use Rattle.record.proofs.Read.{class-row}
+use Rattle.rows.specs.Columns as columns
 use Rattle.rows.specs.Layout.{Laid, rowsAt, cell, optionsIn, headerIn, viewIn}
 use Rattle.rows.proofs.Laws.{rows-at}
 use Rattle.rows.proofs.Classes.{classes-are}
@@ -171,46 +172,46 @@ module _ {t l : List ℕ} (laid : Laid t l) (strings blob : List ℕ) (r : ℕ) 
 
   -- The name behind an index, in a row of the class, as a signature has it.
   pub type-name : (k i : ℕ) → k ≡ 2 * r
-      → typeFullName (envIn t l strings blob (Of k) Nobody) (type (envIn t l strings blob (Of k) Nobody) 17) i .got ≡ typeNameIn v (r - 2) i
+      → typeFullName (envIn t l strings blob (Of k) Nobody) (type (envIn t l strings blob (Of k) Nobody) levels) i .got ≡ typeNameIn v (r - 2) i
   unfolding envIn typeNameIn
   type-name k i e = let q : k ≡ 2 * (r - 2 + 2) = omega arith in rw q
 
-  extended : r ≤ rowsAt l 3 → numberIn v extends (classRow v (r - 2)) ≡ cell t l 5 (r - 1)
+  extended : r ≤ rowsAt l columns.typeName → numberIn v extends (classRow v (r - 2)) ≡ cell t l columns.extends (r - 1)
   unfolding viewOf
   extended h =
       let c : r - 2 + 1 ≡ r - 1 = omega arith in
       ap (λ (x : Option (List ℕ)). orDefault 0 (over (extends (sizesOf v)) x))
-      (class-row (optionsIn l) t strings blob (r - 2) (omega (arith, classes-are laid strings blob 3 (omega arith) refl)))
-      ∙ ap (cell t l 5) c
+      (class-row (optionsIn l) t strings blob (r - 2) (omega (arith, classes-are laid strings blob columns.typeName (omega arith) refl)))
+      ∙ ap (cell t l columns.extends) c
 
-  implemented : present (map (typeNameIn v (r - 2)) (v .interfaces r)) ≡ present (tabulate named 1 (rowsAt l 12))
+  implemented : present (map (typeNameIn v (r - 2)) (v .interfaces r)) ≡ present (tabulate named 1 (rowsAt l columns.implClass))
   unfolding viewOf candidate
   implemented =
       let w = sizesIn (optionsIn l) (headerIn t l) in
-      rw (rows-at laid 12 (omega arith))
+      rw (rows-at laid columns.implClass (omega arith))
       (named-rows (implClass w) (implInterface w) (sideRow (optionsIn l) (headerIn t l) t interfaceImpl) r (typeNameIn v (r - 2))
       named (λ i. refl) _)
 
-  bases-are : r ≤ rowsAt l 3 → baseTypes v (r - 2) ≡ firstNames named (rowsAt l 12 + 1)
+  bases-are : r ≤ rowsAt l columns.typeName → baseTypes v (r - 2) ≡ firstNames named (rowsAt l columns.implClass + 1)
   unfolding baseTypes tabulate candidate
   bases-are h =
       let c : r - 2 + 2 ≡ r = omega arith in
       let name = typeNameIn v (r - 2) in
       ap (λ (e : ℕ). present (name e ∷ map name (v .interfaces (r - 2 + 2)))) (extended h)
-      ∙ ap (λ (k : ℕ). present (name (cell t l 5 (r - 1)) ∷ map name (v .interfaces k))) c
-      ∙ present-cons (name (cell t l 5 (r - 1))) (map name (v .interfaces r)) (tabulate named 1 (rowsAt l 12)) implemented
-      ∙ sym (ap (firstNames named) (add-one (rowsAt l 12)))
+      ∙ ap (λ (k : ℕ). present (name (cell t l columns.extends (r - 1)) ∷ map name (v .interfaces k))) c
+      ∙ present-cons (name (cell t l columns.extends (r - 1))) (map name (v .interfaces r)) (tabulate named 1 (rowsAt l columns.implClass)) implemented
+      ∙ sym (ap (firstNames named) (add-one (rowsAt l columns.implClass)))
 
   -- Of rows that are not the class's own no candidate has a name.
-  other-row : (i : ℕ) → cell t l 12 i ≢ r → named (suc i) ≡ none
+  other-row : (i : ℕ) → cell t l columns.implClass i ≢ r → named (suc i) ≡ none
   unfolding candidate
-  other-row i n = rw (ne-eqb (cell t l 12 i) r n)
+  other-row i n = rw (ne-eqb (cell t l columns.implClass i) r n)
 
-  unnamed : (j : ℕ) → 0 < j → cell t l 12 (j - 1) ≢ r → named j ≡ none
+  unnamed : (j : ℕ) → 0 < j → cell t l columns.implClass (j - 1) ≢ r → named j ≡ none
   unnamed j z n = let one : j ≡ suc (j - 1) = omega arith in ap named one ∙ other-row (j - 1) n
 
   -- The rows of InterfaceImpl among which are all of the class's own.
-  module _ {k first end : ℕ} (key : k ≡ r) (o : OnlyIn (cell t l 12) k (rowsAt l 12) first end) where
+  module _ {k first end : ℕ} (key : k ≡ r) (o : OnlyIn (cell t l columns.implClass) k (rowsAt l columns.implClass) first end) where
     pub own-next : (i : ℕ) {j seen : ℕ} → j ≡ nextCandidate first i → seen ≡ length (firstNames named (i + 1)) → seen ≡ length (firstNames named j)
     own-next i {j} {seen} e s = ⊎-elim start on (eq-zero-or-pos i)
       where
@@ -222,26 +223,26 @@ module _ {t l : List ℕ} (laid : Laid t l) (strings blob : List ℕ) (r : ℕ) 
         on : 0 < i → seen ≡ length (firstNames named j)
         on z = let one : j ≡ i + 1 = e ∙ rw (ne-eqb i 0 (λ q. omega arith)) in s ∙ ap (λ (x : ℕ). length (firstNames named x)) (sym one)
 
-    pub own-all : {i seen : ℕ} → i ≡ end + 1 → seen ≡ length (firstNames named i) → seen ≡ length (firstNames named (rowsAt l 12 + 1))
+    pub own-all : {i seen : ℕ} → i ≡ end + 1 → seen ≡ length (firstNames named i) → seen ≡ length (firstNames named (rowsAt l columns.implClass + 1))
     own-all {i} e s =
-        let all : i + (rowsAt l 12 - end) ≡ rowsAt l 12 + 1 = omega (arith, o .within) in
-        s ∙ ap length (sym (names-skip named i (rowsAt l 12 - end) (λ x lo hi. unnamed x (omega arith) (λ q. o .behind (x - 1) (omega arith) (omega (arith, o .within)) (q ∙ sym key)))) ∙ ap (firstNames named) all)
+        let all : i + (rowsAt l columns.implClass - end) ≡ rowsAt l columns.implClass + 1 = omega (arith, o .within) in
+        s ∙ ap length (sym (names-skip named i (rowsAt l columns.implClass - end) (λ x lo hi. unnamed x (omega arith) (λ q. o .behind (x - 1) (omega arith) (omega (arith, o .within)) (q ∙ sym key)))) ∙ ap (firstNames named) all)
 
   -- What rendering a candidate comes to: number 0 is the extended type, and the others are rows of InterfaceImpl.
   module _ (i : ℕ) {b : List ℕ} where
-    pub said-extended : (p : ℕ) {x : ℕ} {b′ : List ℕ} {o : Option ℕ} → i ≡ 0 → p ≡ r - 1 → x ≡ cell t l 5 p
+    pub said-extended : (p : ℕ) {x : ℕ} {b′ : List ℕ} {o : Option ℕ} → i ≡ 0 → p ≡ r - 1 → x ≡ cell t l columns.extends p
         → Said b 0 b′ (typeNameIn v (r - 2) x) o → Said b 0 b′ (named i) o
     unfolding candidate
     said-extended p z e f s = rw (z, ← e, ← f) s
 
-    module _ {x : ℕ} (z : i ≡ 0 → ⊥) (f : x ≡ cell t l 12 (i - 1)) where
+    module _ {x : ℕ} (z : i ≡ 0 → ⊥) (f : x ≡ cell t l columns.implClass (i - 1)) where
       pub said-other : (x ≡ r → ⊥) → Said b 0 b (named i) none
       unfolding candidate
       said-other n =
           let one : i ≡ suc (i - 1) = omega arith in
           rw (one, ← f, ne-eqb x r n) (missing (kept-same b 0))
 
-      pub said-interface : {y : ℕ} {b′ : List ℕ} {o : Option ℕ} → x ≡ r → y ≡ cell t l 13 (i - 1)
+      pub said-interface : {y : ℕ} {b′ : List ℕ} {o : Option ℕ} → x ≡ r → y ≡ cell t l columns.implInterface (i - 1)
           → Said b 0 b′ (typeNameIn v (r - 2) y) o → Said b 0 b′ (named i) o
       unfolding candidate
       said-interface e g s =
@@ -249,7 +250,7 @@ module _ {t l : List ℕ} (laid : Laid t l) (strings blob : List ℕ) (r : ℕ) 
           rw (one, ← f, eq-eqb x r e, ← g) s
 
   -- A scan that has passed i of n candidates, all that there are, and seen so many names.
-  module _ (h : r ≤ rowsAt l 3) (n i : ℕ) (all : n ≡ rowsAt l 12 + 1) {seen : ℕ} (s : seen ≡ length (firstNames named i)) where
+  module _ (h : r ≤ rowsAt l columns.typeName) (n i : ℕ) (all : n ≡ rowsAt l columns.implClass + 1) {seen : ℕ} (s : seen ≡ length (firstNames named i)) where
     pub bases-counted : i ≡ n → seen ≡ length (baseTypes v (r - 2))
     bases-counted e = rw (bases-are h, ← all, ← e) s
 

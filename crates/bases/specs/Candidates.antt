@@ -8,13 +8,14 @@ use Rattle.numbers.specs.Lists.{tabulate}
 use Rattle.buffers.specs.Texts.{Text}
 use Rattle.record.specs.Missing.{present}
 use Rattle.record.specs.Names.{typeNameIn}
+use Rattle.rows.specs.Columns as columns
 use Rattle.rows.specs.Layout.{cell, viewIn}
 
 -- The name of candidate i of the class at TypeDef row r, from 1: candidate 0 is the row's Extends column, and candidate i + 1 the
 -- Interface column of row i, from 0, of InterfaceImpl, if its Class column is r.
 unfoldable pub candidate : List ℕ → List ℕ → List ℕ → List ℕ → ℕ → ℕ → Option Text
-candidate t l strings blob r zero = typeNameIn (viewIn t l strings blob) (r - 2) (cell t l 5 (r - 1))
-candidate t l strings blob r (suc i) = cond (eqb (cell t l 12 i) r) (typeNameIn (viewIn t l strings blob) (r - 2) (cell t l 13 i)) none
+candidate t l strings blob r zero = typeNameIn (viewIn t l strings blob) (r - 2) (cell t l columns.extends (r - 1))
+candidate t l strings blob r (suc i) = cond (eqb (cell t l columns.implClass i) r) (typeNameIn (viewIn t l strings blob) (r - 2) (cell t l columns.implInterface i)) none
 
 -- The candidate that is tried after candidate i, where no row before the first is the class's own.
 abbrev pub nextCandidate : ℕ → ℕ → ℕ

@@ -12,6 +12,7 @@ ghost use Prim.Native.Nat.{_+_, _-_, _<_, _≤_};
 ghost use lib.ListN.{length, getElem?};
 ghost use Rattle.buffers.specs.Writes.{Said, placeSays};
 ghost use Rattle.record.specs.Names.{typeNameIn, baseTypes};
+ghost use Rattle.rows.specs.Columns as columns;
 ghost use Rattle.rows.specs.Layout.{Laid, rowsAt, viewIn};
 ghost use Rattle.bases.specs.Candidates.{candidate, nextCandidate, isThere};
 
@@ -67,7 +68,7 @@ fn render_candidate(
     i: usize,
 ) -> Place
     requires { ⌜ Laid (now tables) (now layout) ⌝ }
-    requires { ⌜ (1 < row .0) × (row .0 ≤ rowsAt (now layout) 3) × (i ≤ rowsAt (now layout) 12) ⌝ }
+    requires { ⌜ (1 < row .0) × (row .0 ≤ rowsAt (now layout) columns.typeName) × (i ≤ rowsAt (now layout) columns.implClass) ⌝ }
     ensures { λ r. ⌜ Said (now (buf .entry)) 0 (now (buf .exit)) (candidate (now (tables .entry)) (now (layout .entry)) (now (strings .entry)) (now (blob .entry)) (row .0) i) (placeSays r) ⌝ }
 {
     if i == 0 {
@@ -92,7 +93,7 @@ fn has_name(
     i: usize,
 ) -> bool
     requires { ⌜ Laid (now tables) (now layout) ⌝ }
-    requires { ⌜ (1 < row .0) × (row .0 ≤ rowsAt (now layout) 3) × (i ≤ rowsAt (now layout) 12) ⌝ }
+    requires { ⌜ (1 < row .0) × (row .0 ≤ rowsAt (now layout) columns.typeName) × (i ≤ rowsAt (now layout) columns.implClass) ⌝ }
     ensures { λ r. ⌜ r ≡ isThere (candidate (now (tables .entry)) (now (layout .entry)) (now (strings .entry)) (now (blob .entry)) (row .0) i) ⌝ }
 {
     let mut space = [0u8; 1];
@@ -111,7 +112,7 @@ pub fn count_bases(
     row: TypeDefRow,
 ) -> usize
     requires { ⌜ Laid (now tables) (now layout) ⌝ }
-    requires { ⌜ (1 < row .0) × (row .0 ≤ rowsAt (now layout) 3) ⌝ }
+    requires { ⌜ (1 < row .0) × (row .0 ≤ rowsAt (now layout) columns.typeName) ⌝ }
     ensures { λ r. ⌜ r ≡ length (baseTypes (viewIn (now (tables .entry)) (now (layout .entry)) (now (strings .entry)) (now (blob .entry))) (row .0 - 2)) ⌝ }
 {
     let own = keys::key_rows(tables, layout, columns::IMPL_CLASS, wide(row.0));
@@ -140,7 +141,7 @@ pub fn render_base(
     nth: usize,
 ) -> Place
     requires { ⌜ Laid (now tables) (now layout) ⌝ }
-    requires { ⌜ (1 < row .0) × (row .0 ≤ rowsAt (now layout) 3) ⌝ }
+    requires { ⌜ (1 < row .0) × (row .0 ≤ rowsAt (now layout) columns.typeName) ⌝ }
     ensures { λ r. ⌜ Said (now (buf .entry)) 0 (now (buf .exit)) (getElem? (baseTypes (viewIn (now (tables .entry)) (now (layout .entry)) (now (strings .entry)) (now (blob .entry))) (row .0 - 2)) nth) (placeSays r) ⌝ }
 {
     let own = keys::key_rows(tables, layout, columns::IMPL_CLASS, wide(row.0));

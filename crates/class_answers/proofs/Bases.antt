@@ -18,6 +18,7 @@ use Rattle.record.specs.View.{View}
 use Rattle.record.specs.Names.{baseTypes}
 use Rattle.record.specs.Record.{class}
 use Rattle.record.specs.Answers.{_⟫_, orNoRow, item, theClass, Numbered, baseCount, baseName}
+use Rattle.rows.specs.Columns as columns
 use Rattle.rows.specs.Layout.{Laid, rowsAt, viewIn}
 use Rattle.listed.proofs.Laws.{listed, unlisted}
 
@@ -34,7 +35,7 @@ module _ {t l : List ℕ} (laid : Laid t l) (strings blob : List ℕ) (c : ℕ) 
   v = viewIn t l strings blob
 
   -- A class that is listed, with its row.
-  module _ {row : TypeDefRow} (at : (row .0 ≡ c + 2) × (c + 2 ≤ rowsAt l 3)) where
+  module _ {row : TypeDefRow} (at : (row .0 ≡ c + 2) × (c + 2 ≤ rowsAt l columns.typeName)) where
     is : theClass v c ≡ value (class v c)
     is = listed laid strings blob c (at .1)
 
@@ -62,7 +63,7 @@ module _ {t l : List ℕ} (laid : Laid t l) (strings blob : List ℕ) (c : ℕ) 
         class-no-base s named = rw base-is (named-gone s named)
 
   -- A class that is not.
-  module _ (h : rowsAt l 3 < c + 2) where
+  module _ (h : rowsAt l columns.typeName < c + 2) where
     isn't : theClass v c ≡ refused (number NoSuchRow)
     isn't = unlisted laid strings blob c h
 

@@ -20,6 +20,7 @@ use Rattle.record.specs.Columns.{column, genericName}
 use Rattle.record.specs.View.{viewOf, sideRow, sideRows}
 use Rattle.record.proofs.Keyed.{cut}
 use Rattle.layouts.specs.Read.{readColumn}
+use Rattle.rows.specs.Columns as columns
 use Rattle.rows.specs.Layout.{optionsIn, headerIn, rowsAt, cell, Ascends, Laid, viewIn}
 use Rattle.rows.proofs.Laws.{rows-at, ascending, le-or-lt}
 use Rattle.keys.specs.Keyed.{keyed, FoundIs, SplitAt, OnlyIn}
@@ -154,7 +155,7 @@ module _ {t l : List ℕ} (laid : Laid t l) where
   rowOf c = sideRow (optionsIn l) (headerIn t l) t (readColumn c .kind)
 
   -- By the key column c and the value of a row:
-  module _ {B : Type 0} (c : ℕ) (known : c < 19) (value : List ℕ → B) (k : ℕ) where
+  module _ {B : Type 0} (c : ℕ) (known : c < columns.count) (value : List ℕ → B) (k : ℕ) where
     abbrev listed : List B
     listed = ofKey (keyOf c) value (rowOf c) (sideRows (optionsIn l) (headerIn t l) t (readColumn c .kind)) k
 
@@ -182,26 +183,26 @@ module _ {t l : List ℕ} (laid : Laid t l) (strings blob : List ℕ) (k : ℕ) 
 
   -- What a search among the owners finds.
   abbrev Finds : ℕ → Row → Type 0
-  Finds = FoundIs (cell t l 17) k (rowsAt l 17)
+  Finds = FoundIs (cell t l columns.owner) k (rowsAt l columns.owner)
 
-  pub generics-count : length names ≡ keyed (cell t l 17) k (rowsAt l 17)
+  pub generics-count : length names ≡ keyed (cell t l columns.owner) k (rowsAt l columns.owner)
   unfolding viewOf
-  generics-count = listed-count laid 17 (omega arith) nameAt k
+  generics-count = listed-count laid columns.owner (omega arith) nameAt k
 
-  pub generics-item : (nth i : ℕ) → Finds nth (At i) → (i < rowsAt l 18) × (getElem? names nth ≡ some (string strings (cell t l 18 i)))
+  pub generics-item : (nth i : ℕ) → Finds nth (At i) → (i < rowsAt l columns.genericName) × (getElem? names nth ≡ some (string strings (cell t l columns.genericName i)))
   unfolding viewOf
   generics-item nth i h =
-      let a = rows-at laid 17 (omega arith) in
-      let b = rows-at laid 18 (omega arith) in
-      (omega arith, listed-item laid 17 (omega arith) nameAt k nth i h)
+      let a = rows-at laid columns.owner (omega arith) in
+      let b = rows-at laid columns.genericName (omega arith) in
+      (omega arith, listed-item laid columns.owner (omega arith) nameAt k nth i h)
 
   pub generics-past : (nth : ℕ) → Finds nth NoRow → getElem? names nth ≡ none
   unfolding viewOf
-  generics-past nth h = listed-past laid 17 (omega arith) nameAt k nth h
+  generics-past nth h = listed-past laid columns.owner (omega arith) nameAt k nth h
 
   -- The same of an answer that was matched.
   pub generics-found : (nth i : ℕ) {r : Row} → Finds nth r → r ≡ At i
-      → (i < rowsAt l 18) × (getElem? names nth ≡ some (string strings (cell t l 18 i)))
+      → (i < rowsAt l columns.genericName) × (getElem? names nth ≡ some (string strings (cell t l columns.genericName i)))
   generics-found nth i h e = generics-item nth i (subst (Finds nth) e h)
 
   pub generics-missed : (nth : ℕ) {r : Row} → Finds nth r → r ≡ NoRow → getElem? names nth ≡ none

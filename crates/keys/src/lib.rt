@@ -2,6 +2,7 @@
 // rows need not be sorted by the key; where they are known to be, those of a key are found by halving.
 ghost use mathlib.Core.Path.{_≡_};
 ghost use Prim.Native.Nat.{_<_};
+ghost use Rattle.rows.specs.Columns as columns;
 ghost use Rattle.rows.specs.Layout.{Laid, Ascends, rowsAt, cell};
 ghost use Rattle.keys.specs.Keyed.{keyed, FoundIs, SplitAt, OnlyIn};
 
@@ -20,7 +21,7 @@ pub struct Span {
 // How many rows have a lesser key, in a column that ascends.
 pub fn count_below(tables: &[u8], layout: &rows::Layout, column: usize, key: usize) -> usize
     requires { ⌜ Laid (now tables) (now layout) ⌝ }
-    requires { ⌜ (column < 19) × Ascends (cell (now tables) (now layout) column) (rowsAt (now layout) column) ⌝ }
+    requires { ⌜ (column < columns.count) × Ascends (cell (now tables) (now layout) column) (rowsAt (now layout) column) ⌝ }
     ensures { λ r. ⌜ SplitAt (cell (now (tables .entry)) (now (layout .entry)) column) key (rowsAt (now (layout .entry)) column) r ⌝ }
 {
     let mut low = 0;
@@ -39,7 +40,7 @@ pub fn count_below(tables: &[u8], layout: &rows::Layout, column: usize, key: usi
 // Rows among which are all that have the key: all rows, unless the column is known to ascend.
 pub fn key_rows(tables: &[u8], layout: &rows::Layout, column: usize, key: usize) -> Span
     requires { ⌜ Laid (now tables) (now layout) ⌝ }
-    requires { ⌜ column < 19 ⌝ }
+    requires { ⌜ column < columns.count ⌝ }
     ensures { λ r. ⌜ OnlyIn (cell (now (tables .entry)) (now (layout .entry)) column) key (rowsAt (now (layout .entry)) column) (r .first) (r .end) ⌝ }
 {
     let all = rows::count_rows(layout, column);
@@ -57,7 +58,7 @@ pub fn key_rows(tables: &[u8], layout: &rows::Layout, column: usize, key: usize)
 // How many rows have the key.
 pub fn count_key(tables: &[u8], layout: &rows::Layout, column: usize, key: usize) -> usize
     requires { ⌜ Laid (now tables) (now layout) ⌝ }
-    requires { ⌜ column < 19 ⌝ }
+    requires { ⌜ column < columns.count ⌝ }
     ensures { λ r. ⌜ r ≡ keyed (cell (now (tables .entry)) (now (layout .entry)) column) key (rowsAt (now (layout .entry)) column) ⌝ }
 {
     let span = key_rows(tables, layout, column, key);
@@ -77,7 +78,7 @@ pub fn count_key(tables: &[u8], layout: &rows::Layout, column: usize, key: usize
 // The row of the key that has nth rows of that key before it.
 pub fn find_key(tables: &[u8], layout: &rows::Layout, column: usize, key: usize, nth: usize) -> Row
     requires { ⌜ Laid (now tables) (now layout) ⌝ }
-    requires { ⌜ column < 19 ⌝ }
+    requires { ⌜ column < columns.count ⌝ }
     ensures { λ r. ⌜ FoundIs (cell (now (tables .entry)) (now (layout .entry)) column) key (rowsAt (now (layout .entry)) column) nth r ⌝ }
 {
     let span = key_rows(tables, layout, column, key);

@@ -1,7 +1,7 @@
 -- The columns that are read, and where they stand in a row (ECMA-335 II.22).
 use mathlib.Core.List.{List, [], _∷_}
 use Prim.Native.Nat.{ℕ}
-use lib.ListN.{take, getD}
+use lib.ListN.{length, take, getD}
 use Rattle.layouts.specs.declared.IndexSizes.{IndexSizes}
 use Rattle.layouts.specs.Kinds.{typeRef, typeDef, methodDef, param, interfaceImpl, typeSpec, nestedClass, genericParam}
 use Rattle.layouts.specs.Columns.{Two, columnsOf, widthIn, sumOf}
@@ -33,6 +33,9 @@ readColumns =
     of nestedClass 0 ∷ of nestedClass 1 ∷
     -- 17, 18  GenericParam, II.22.20: Owner, Name
     of genericParam 2 ∷ of genericParam 3 ∷ []
+
+abbrev pub readCount : ℕ
+readCount = length readColumns
 
 abbrev pub readColumn : ℕ → Of
 readColumn c = getD readColumns c (of 0 0)

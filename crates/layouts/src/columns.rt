@@ -8,8 +8,11 @@ ghost use mathlib.Core.Path.{_≡_};
 ghost use mathlib.Core.List.{map};
 ghost use Rattle.layouts.specs.Read.{readColumns, offsetIn, bytesIn};
 
+// How many there are.
+pub const COUNT: usize = 19;
+
 // The table of each.
-pub fn column_kinds() -> [usize; 19]
+pub fn column_kinds() -> [usize; COUNT]
     ensures { λ r. ⌜ r ≡ map (λ c. c .kind) readColumns ⌝ }
 {
     [
@@ -44,7 +47,7 @@ pub fn column_kinds() -> [usize; 19]
 }
 
 // The bytes of a row before each.
-pub fn column_offsets(w: IndexSizes) -> [u32; 19]
+pub fn column_offsets(w: IndexSizes) -> [u32; COUNT]
     ensures { λ r. ⌜ r ≡ map (offsetIn w) readColumns ⌝ }
 {
     [
@@ -79,7 +82,7 @@ pub fn column_offsets(w: IndexSizes) -> [u32; 19]
 }
 
 // The bytes of each.
-pub fn column_widths(w: IndexSizes) -> [u32; 19]
+pub fn column_widths(w: IndexSizes) -> [u32; COUNT]
     ensures { λ r. ⌜ r ≡ map (bytesIn w) readColumns ⌝ }
 {
     [

@@ -20,6 +20,7 @@ use Rattle.record.specs.Methods.{leftAfter}
 use Rattle.record.specs.Record.{method, class}
 use Rattle.record.specs.Answers.{_⟫_, orNoRow, item, theClass, theMethod, methodCount}
 use Rattle.record.proofs.Laws.{class-at, class-none}
+use Rattle.rows.specs.Columns as columns
 use Rattle.rows.specs.Layout.{Laid, rowsAt, viewIn}
 use Rattle.rows.proofs.Laws.{rows-at, rows-narrow}
 use Rattle.rows.proofs.Classes.{classes-are}
@@ -50,35 +51,35 @@ module _ (c : ClassNumber) {r : TypeDefRow} (e : r ≡ rowOf c) where
 
 -- What a caller that has matched the answer knows.
 module _ {l : List ℕ} {c : ℕ} where
-  row-in : {row : TypeDefRow} → ClassRowIs l c (Row row) → (row .0 ≡ c + 2) × (c + 2 ≤ rowsAt l 3)
+  row-in : {row : TypeDefRow} → ClassRowIs l c (Row row) → (row .0 ≡ c + 2) × (c + 2 ≤ rowsAt l columns.typeName)
   row-in (at-row e h) = (e, h)
 
-  row-out : ClassRowIs l c NoRow → rowsAt l 3 < c + 2
+  row-out : ClassRowIs l c NoRow → rowsAt l columns.typeName < c + 2
   row-out (no-row h) = h
 
   module _ {r : ClassRow} (h : ClassRowIs l c r) where
-    pub class-found : {row : TypeDefRow} → r ≡ Row row → (row .0 ≡ c + 2) × (c + 2 ≤ rowsAt l 3)
+    pub class-found : {row : TypeDefRow} → r ≡ Row row → (row .0 ≡ c + 2) × (c + 2 ≤ rowsAt l columns.typeName)
     class-found e = row-in (subst (ClassRowIs l c) e h)
 
-    pub class-missed : r ≡ NoRow → rowsAt l 3 < c + 2
+    pub class-missed : r ≡ NoRow → rowsAt l columns.typeName < c + 2
     class-missed e = row-out (subst (ClassRowIs l c) e h)
 
 module _ {t l : List ℕ} (laid : Laid t l) (strings blob : List ℕ) where
   abbrev v : View
   v = viewIn t l strings blob
 
-  pub listed : (c : ℕ) → c + 2 ≤ rowsAt l 3 → theClass v c ≡ value (class v c)
+  pub listed : (c : ℕ) → c + 2 ≤ rowsAt l columns.typeName → theClass v c ≡ value (class v c)
   unfolding viewOf
-  listed c h = class-at v c (laid .ready) (omega (arith, classes-are laid strings blob 3 (omega arith) refl))
+  listed c h = class-at v c (laid .ready) (omega (arith, classes-are laid strings blob columns.typeName (omega arith) refl))
 
-  pub unlisted : (c : ℕ) → rowsAt l 3 < c + 2 → theClass v c ≡ refused (number NoSuchRow)
+  pub unlisted : (c : ℕ) → rowsAt l columns.typeName < c + 2 → theClass v c ≡ refused (number NoSuchRow)
   unfolding viewOf
-  unlisted c h = class-none v c (laid .ready) (omega (arith, classes-are laid strings blob 3 (omega arith) refl))
+  unlisted c h = class-none v c (laid .ready) (omega (arith, classes-are laid strings blob columns.typeName (omega arith) refl))
 
   -- MethodDef has no more rows than 32 bits can say.
   pub methods-narrow : rowsIn v methodDef < 4_294_967_296
   unfolding viewOf
-  methods-narrow = rw (← rows-at laid 8 (omega arith)) (rows-narrow laid 8 (omega arith))
+  methods-narrow = rw (← rows-at laid columns.methodName (omega arith)) (rows-narrow laid columns.methodName (omega arith))
 
 -- The range of a class by its row.
 pub range-of : {v : View} {c r first end : ℕ} → r ≡ c + 2 → RangeOf v (r - 2) first end → RangeOf v c first end

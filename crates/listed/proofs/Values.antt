@@ -17,13 +17,14 @@ use Rattle.layouts.specs.Kinds.{methodDef}
 use Rattle.layouts.specs.Read.{readColumn}
 use Rattle.tables.specs.Extents.{keptRows}
 use Rattle.record.specs.Missing.{over, andThen, orDefault}
-use Rattle.record.specs.Columns as columns
+use Rattle.record.specs.Columns as rowColumns
 use Rattle.record.specs.View.{View, viewOf}
 use Rattle.record.specs.Names.{rowsIn, sizesOf, classFullName}
 use Rattle.record.specs.Record.{Parameter, Method, method, class, classRecord}
 use Rattle.record.specs.Answers.{_⟫_, ready, orNoRow, item, theClass, theMethod, Numbered, classCount, classFlags, className, genericCount, genericName, methodCount, methodFlags, methodName, methodGenericCount, methodGenericName, returnType, parameterCount, parameterType, parameterName}
 use Rattle.record.proofs.Laws.{record-length}
 use Rattle.record.proofs.Read.{class-row, method-row}
+use Rattle.rows.specs.Columns as columns
 use Rattle.rows.specs.Layout.{Laid, rowsAt, cell, optionsIn, headerIn, viewIn}
 use Rattle.rows.proofs.Laws.{rows-at}
 use Rattle.rows.proofs.Classes.{classes-are}
@@ -48,25 +49,25 @@ module _ {t l : List ℕ} (laid : Laid t l) (strings blob : List ℕ) where
   abbrev v : View
   v = viewIn t l strings blob
 
-  pub class-counted : {n : ℕ} → n ≡ rowsAt l 3 - 1 → Numbered (classCount v) (Is n)
+  pub class-counted : {n : ℕ} → n ≡ rowsAt l columns.typeName - 1 → Numbered (classCount v) (Is n)
   unfolding classCount viewOf
   class-counted e =
-      ap value (e ∙ sym (record-length v ∙ classes-are laid strings blob 3 (omega arith) refl))
+      ap value (e ∙ sym (record-length v ∙ classes-are laid strings blob columns.typeName (omega arith) refl))
       ∙ sym (ap (λ a. ready a ⟫ (λ _. value (classRecord v)) ⟫ (λ l. value (length l))) (laid .ready))
 
   -- A class that is listed, with its row.
-  module _ (c : ℕ) {row : TypeDefRow} (at : (row .0 ≡ c + 2) × (c + 2 ≤ rowsAt l 3)) where
+  module _ (c : ℕ) {row : TypeDefRow} (at : (row .0 ≡ c + 2) × (c + 2 ≤ rowsAt l columns.typeName)) where
     is : theClass v c ≡ value (class v c)
     is = listed laid strings blob c (at .1)
 
-    pub class-flags : {x : ℕ} → x ≡ cell t l 2 (row .0 - 1) → Numbered (classFlags v c) (Is x)
+    pub class-flags : {x : ℕ} → x ≡ cell t l columns.typeFlags (row .0 - 1) → Numbered (classFlags v c) (Is x)
     unfolding classFlags class viewOf
     class-flags e =
         let i : row .0 - 1 ≡ c + 1 = omega (arith, at .0) in
-        ap value (e ∙ ap (cell t l 2) i)
+        ap value (e ∙ ap (cell t l columns.typeFlags) i)
         ∙ sym (through (λ k. value (k .flags)) is
-        ∙ ap (λ (r : Option (List ℕ)). value (orDefault 0 (over (columns.typeFlags (sizesOf v)) r)))
-        (class-row (optionsIn l) t strings blob c (omega (arith, classes-are laid strings blob 3 (omega arith) refl, at .1))))
+        ∙ ap (λ (r : Option (List ℕ)). value (orDefault 0 (over (rowColumns.typeFlags (sizesOf v)) r)))
+        (class-row (optionsIn l) t strings blob c (omega (arith, classes-are laid strings blob columns.typeName (omega arith) refl, at .1))))
 
     pub class-name : {b b′ : List ℕ} {r : Reply} → Named (nameOr5 (classFullName v (row .0))) b r b′ → Named (className v c) b r b′
     unfolding className class
@@ -86,7 +87,7 @@ module _ {t l : List ℕ} (laid : Laid t l) (strings blob : List ℕ) where
     class-methods r = sym (methods-counted v c is (range-of (at .0) r))
 
   -- A class that is not: every call for it answers 4.
-  module _ (c : ℕ) (h : rowsAt l 3 < c + 2) where
+  module _ (c : ℕ) (h : rowsAt l columns.typeName < c + 2) where
     isn't : theClass v c ≡ refused (number NoSuchRow)
     isn't = unlisted laid strings blob c h
 
@@ -113,24 +114,24 @@ module _ {t l : List ℕ} (laid : Laid t l) (strings blob : List ℕ) where
 
   -- A method that is listed, at a place of MethodDef.
   module _ (c m : ℕ) {i : ℕ} (at : (theMethod v c m ≡ value (method v i)) × (i < rowsIn v methodDef)) where
-    pub method-inside : (d : ℕ) → d < 19 → readColumn d .kind ≡ methodDef → i < rowsAt l d
+    pub method-inside : (d : ℕ) → d < columns.count → readColumn d .kind ≡ methodDef → i < rowsAt l d
     unfolding viewOf
     method-inside d k e =
         let r = rows-at laid d k ∙ ap (keptRows (optionsIn l) (headerIn t l) (length t)) e in
         omega (arith, at .1)
 
-    pub method-flags : {x : ℕ} → x ≡ cell t l 7 i → Numbered (methodFlags v c m) (Is x)
+    pub method-flags : {x : ℕ} → x ≡ cell t l columns.methodFlags i → Numbered (methodFlags v c m) (Is x)
     unfolding methodFlags method viewOf
     method-flags e =
         ap value e
         ∙ sym (through (λ k. value (k .flags)) (at .0)
-        ∙ ap (λ (r : Option (List ℕ)). value (orDefault 0 (over (columns.methodFlags (sizesOf v)) r))) (method-row (optionsIn l) t strings blob i (at .1)))
+        ∙ ap (λ (r : Option (List ℕ)). value (orDefault 0 (over (rowColumns.methodFlags (sizesOf v)) r))) (method-row (optionsIn l) t strings blob i (at .1)))
 
-    pub method-name : {b b′ : List ℕ} {r : Reply} → Named (nameOr5 (string strings (cell t l 8 i))) b r b′ → Named (methodName v c m) b r b′
+    pub method-name : {b b′ : List ℕ} {r : Reply} → Named (nameOr5 (string strings (cell t l columns.methodName i))) b r b′ → Named (methodName v c m) b r b′
     unfolding methodName method viewOf
     method-name n =
         named-as (through (λ k. nameOr5 (k .name)) (at .0)
-        ∙ ap (λ (r : Option (List ℕ)). nameOr5 (andThen r (λ bytes. string strings (columns.methodName (sizesOf v) bytes))))
+        ∙ ap (λ (r : Option (List ℕ)). nameOr5 (andThen r (λ bytes. string strings (rowColumns.methodName (sizesOf v) bytes))))
         (method-row (optionsIn l) t strings blob i (at .1))) n
 
     pub method-generics : {x : ℕ} → x ≡ length (v .generics (2 * (i + 1) + 1)) → Numbered (methodGenericCount v c m) (Is x)
@@ -196,8 +197,8 @@ module _ {t l : List ℕ} (laid : Laid t l) (strings blob : List ℕ) where
       no-method-generic g = named-as (stopped (λ k. item (k .generics) g ⟫ nameOr5) isn't) n
 
   -- A generic parameter that was searched for among those of an owner, and its name that answers a call.
-  module _ (owner : ℕ) {nth g : ℕ} {r : Row} (e : nth ≡ g) (found : FoundIs (cell t l 17) owner (rowsAt l 17) nth r) {b b′ : List ℕ} {reply : Reply} where
-    pub named-generic : {i : ℕ} → r ≡ At i → Named (nameOr5 (string strings (cell t l 18 i))) b reply b′
+  module _ (owner : ℕ) {nth g : ℕ} {r : Row} (e : nth ≡ g) (found : FoundIs (cell t l columns.owner) owner (rowsAt l columns.owner) nth r) {b b′ : List ℕ} {reply : Reply} where
+    pub named-generic : {i : ℕ} → r ≡ At i → Named (nameOr5 (string strings (cell t l columns.genericName i))) b reply b′
         → Named (orNoRow (getElem? (v .generics owner) g) ⟫ nameOr5) b reply b′
     named-generic {i} f n = rw (← e, generics-found laid strings blob owner nth i found f .1) n
 

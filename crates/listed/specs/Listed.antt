@@ -10,6 +10,7 @@ use Rattle.record.specs.View.{View}
 use Rattle.record.specs.Names.{rowsIn}
 use Rattle.record.specs.Record.{method}
 use Rattle.record.specs.Answers.{theMethod}
+use Rattle.rows.specs.Columns as columns
 use Rattle.rows.specs.Layout.{rowsAt}
 use Rattle.listed.specs.declared.ClassRow.{ClassRow}
 use Rattle.listed.specs.declared.ClassRow.the-variants.{Row, NoRow}
@@ -18,8 +19,8 @@ use Rattle.listed.specs.declared.MethodRow.the-variants.{Row as MethodAt
 
 -- Class c is at TypeDef row c + 2, where the table, by the layout l, has that row.
 pub data ClassRowIs (l : List ℕ) (c : ℕ) : ClassRow → Type 0 where
-  at-row : {r : TypeDefRow} → r .0 ≡ c + 2 → c + 2 ≤ rowsAt l 3 → ClassRowIs l c (Row r)
-  no-row : rowsAt l 3 < c + 2 → ClassRowIs l c NoRow
+  at-row : {r : TypeDefRow} → r .0 ≡ c + 2 → c + 2 ≤ rowsAt l columns.typeName → ClassRowIs l c (Row r)
+  no-row : rowsAt l columns.typeName < c + 2 → ClassRowIs l c NoRow
 
 -- Method m of class c is the method at a place of MethodDef, from 0; or there is none.
 pub data MethodRowIs (v : View) (c m : ℕ) : MethodRow → Type 0 where

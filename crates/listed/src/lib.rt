@@ -14,6 +14,7 @@ ghost use Prim.Native.Nat.{ℕ, _-_, _<_};
 ghost use lib.ListN.{length, getElem?};
 ghost use Rattle.buffers.specs.Replies.{nameOr5, Named};
 ghost use Rattle.record.specs.Answers.{_⟫_, orNoRow};
+ghost use Rattle.rows.specs.Columns as columns;
 ghost use Rattle.rows.specs.Layout.{Laid, rowsAt, viewIn};
 ghost use Rattle.listed.specs.Listed.{ClassRowIs, MethodRowIs};
 
@@ -31,14 +32,14 @@ pub enum MethodRow {
 
 // How many classes there are: TypeDef row 1 is none.
 pub fn count_classes(layout: &Layout) -> usize
-    ensures { λ r. ⌜ r ≡ rowsAt (now (layout .entry)) 3 - 1 ⌝ }
+    ensures { λ r. ⌜ r ≡ rowsAt (now (layout .entry)) columns.typeName - 1 ⌝ }
 {
     let n = rows::count_rows(layout, columns::TYPE_NAME);
     if n == 0 { 0 } else { n - 1 }
 }
 
 pub fn class_row(layout: &Layout, class: ClassNumber) -> ClassRow
-    requires { ⌜ rowsAt (now layout) 3 < 4294967296 ⌝ }
+    requires { ⌜ rowsAt (now layout) columns.typeName < 4294967296 ⌝ }
     ensures { λ r. ⌜ ClassRowIs (now (layout .entry)) (class .0) r ⌝ }
 {
     let row = classes::row_of(class);

@@ -8,6 +8,7 @@ use native.Mathlib.Nat.{eq-or-lt-of-le, eq-zero-or-pos}
 use native.Mathlib.Omega.{arith}
 use lib.ListN.{length, getD, set}
 use lib.Seq.{getD-set-other}
+use Rattle.rows.specs.Columns as columns
 use Rattle.rows.specs.Layout.{Laid, Ascends, optionsIn, markAt, rowsAt, cell, viewIn}
 use Rattle.marks.specs.Marks.{Tells, Marked}
 
@@ -73,16 +74,16 @@ marked-view m strings blob = rw (m .options)
 
 module _ {t l : List ℕ} (laid : Laid t l) (c : ℕ) where
   abbrev l′ : List ℕ
-  l′ = set l (78 + c) 1
+  l′ = set l (columns.marks + c) 1
 
-  kept : (i : ℕ) → i < 78 → getD l′ i 0 ≡ getD l i 0
-  kept i h = getD-set-other l (78 + c) i 1 0 (λ e. omega arith)
+  kept : (i : ℕ) → i < columns.marks → getD l′ i 0 ≡ getD l i 0
+  kept i h = getD-set-other l (columns.marks + c) i 1 0 (λ e. omega arith)
 
   same-options : optionsIn l′ ≡ optionsIn l
   unfolding optionsIn
-  same-options = rw (kept 76 (omega arith), kept 77 (omega arith))
+  same-options = rw (kept columns.limit (omega arith), kept columns.security (omega arith))
 
-  pub marked-one : c < 19 → Ascends (cell t l c) (rowsAt l c) → Marked t l l′
+  pub marked-one : c < columns.count → Ascends (cell t l c) (rowsAt l c) → Marked t l l′
   marked-one h a =
       record {
         laid = record {
@@ -91,7 +92,7 @@ module _ {t l : List ℕ} (laid : Laid t l) (c : ℕ) where
           is = λ i k. rw same-options (kept i k ∙ laid .is i k);
           marked = λ d k m. rw (same-options, kept (4 * d + 3) (omega arith))
               (⊎-elim (λ e. rw e a)
-              (λ n. laid .marked d k (sym (getD-set-other l (78 + c) (78 + d) 1 0 (λ e. n (omega arith))) ∙ m))
+              (λ n. laid .marked d k (sym (getD-set-other l (columns.marks + c) (columns.marks + d) 1 0 (λ e. n (omega arith))) ∙ m))
               (same-or-not d c));
         };
         options = same-options;

@@ -5,13 +5,14 @@ use rows::Layout;
 use rows::columns;
 ghost use mathlib.Core.Path.{_≡_};
 ghost use Prim.Native.Nat.{_<_};
+ghost use Rattle.rows.specs.Columns as columns;
 ghost use Rattle.rows.specs.Layout.{Laid, Ascends, rowsAt, cell};
 ghost use Rattle.marks.specs.Marks.{Tells, Marked};
 
 // Whether no number of a column is less than the one in the row before it.
 fn ascends(tables: &[u8], layout: &Layout, column: usize) -> bool
     requires { ⌜ Laid (now tables) (now layout) ⌝ }
-    requires { ⌜ column < 19 ⌝ }
+    requires { ⌜ column < columns.count ⌝ }
     ensures { λ r. ⌜ Tells r (Ascends (cell (now (tables .entry)) (now (layout .entry)) column) (rowsAt (now (layout .entry)) column)) ⌝ }
 {
     let n = rows::count_rows(layout, column);
@@ -31,11 +32,11 @@ fn ascends(tables: &[u8], layout: &Layout, column: usize) -> bool
 // Mark a column if it ascends.
 fn mark_column(tables: &[u8], layout: &mut Layout, column: usize)
     requires { ⌜ Laid (now tables) (now layout) ⌝ }
-    requires { ⌜ column < 19 ⌝ }
+    requires { ⌜ column < columns.count ⌝ }
     ensures { λ _. ⌜ Marked (now (tables .entry)) (now (layout .entry)) (now (layout .exit)) ⌝ }
 {
     if ascends(tables, layout, column) {
-        layout[78 + column] = 1;
+        layout[columns::MARKS + column] = 1;
     }
 }
 

@@ -13,6 +13,7 @@ use Rattle.record.specs.View.{View, viewOf}
 use Rattle.record.specs.Names.{rowsIn, numberIn, classes, classRow}
 use Rattle.record.specs.Methods.{methodLists, takes, leftOver, leftAfter}
 use Rattle.record.proofs.Read.{left-le}
+use Rattle.rows.specs.Columns as columns
 use Rattle.rows.specs.Layout.{Laid, Ascends, rowsAt, cell, optionsIn, viewIn}
 use Rattle.rows.proofs.Laws.{le-or-lt}
 use Rattle.rows.proofs.Classes.{classes-are, methods-are, list-at}
@@ -78,25 +79,25 @@ module _ {t l : List ℕ} (laid : Laid t l) (strings blob : List ℕ) where
   v = viewIn t l strings blob
 
   -- At the start no class has taken any.
-  pub all-left : {r left : ℕ} → 0 < r → r ≡ rowsAt l 6 → left ≡ rowsAt l 8 → left ≡ leftAfter v (r - 1)
+  pub all-left : {r left : ℕ} → 0 < r → r ≡ rowsAt l columns.methodList → left ≡ rowsAt l columns.methodName → left ≡ leftAfter v (r - 1)
   unfolding leftAfter
   all-left {r} z e a =
-      let k = classes-are laid strings blob 6 (omega arith) refl in
-      a ∙ sym (left-none v (r - 1) (classes v - (r - 1)) (omega arith) ∙ methods-are laid strings blob 8 (omega arith) refl)
+      let k = classes-are laid strings blob columns.methodList (omega arith) refl in
+      a ∙ sym (left-none v (r - 1) (classes v - (r - 1)) (omega arith) ∙ methods-are laid strings blob columns.methodName (omega arith) refl)
 
   -- The class at row r takes its methods.
-  pub class-takes : (r : ℕ) {x left next : ℕ} → 1 < r → r ≤ rowsAt l 6 → x ≡ cell t l 6 (r - 1) → left ≡ leftAfter v (r - 1) → next ≡ takes x left
+  pub class-takes : (r : ℕ) {x left next : ℕ} → 1 < r → r ≤ rowsAt l columns.methodList → x ≡ cell t l columns.methodList (r - 1) → left ≡ leftAfter v (r - 1) → next ≡ takes x left
       → next ≡ leftAfter v (r - 1 - 1)
   class-takes r z h read a n =
-      let k = classes-are laid strings blob 6 (omega arith) refl in
+      let k = classes-are laid strings blob columns.methodList (omega arith) refl in
       let one : r - 1 - 1 + 1 ≡ r - 1 = omega arith in
       let c = list-at laid strings blob (r - 1 - 1) (omega arith) in
       let s = left-step v (r - 1 - 1) (omega arith) in
-      n ∙ ap₂ takes (read ∙ ap (cell t l 6) (sym one) ∙ sym c) (a ∙ ap (leftAfter v) (sym one)) ∙ sym s
+      n ∙ ap₂ takes (read ∙ ap (cell t l columns.methodList) (sym one) ∙ sym c) (a ∙ ap (leftAfter v) (sym one)) ∙ sym s
 
   -- The range of the class at a row, by what the classes after it have left.
-  pub range-is : (row : ℕ) {own x first left : ℕ} → own ≡ row → 1 < row → row ≤ rowsAt l 6
-      → x ≡ cell t l 6 (own - 1) → left ≡ leftAfter v (own - 1) → first ≡ takes x left → RangeOf v (row - 2) first left
+  pub range-is : (row : ℕ) {own x first left : ℕ} → own ≡ row → 1 < row → row ≤ rowsAt l columns.methodList
+      → x ≡ cell t l columns.methodList (own - 1) → left ≡ leftAfter v (own - 1) → first ≡ takes x left → RangeOf v (row - 2) first left
   range-is row {own} {x} {first} {left} eo z h read a n =
       let two : row - 1 - 1 ≡ row - 2 = omega arith in
       let one : own - 1 ≡ row - 2 + 1 = omega arith in
@@ -106,21 +107,21 @@ module _ {t l : List ℕ} (laid : Laid t l) (strings blob : List ℕ) where
       record { begins = rw two at begins; ends = a ∙ ap (leftAfter v) one; inside = omega arith; order = omega arith }
 
   -- Where MethodList ascends, what the classes from c on leave is decided by class c alone, unless its column is 0.
-  none-after : (c : ℕ) → classes v ≤ c → leftAfter v c ≡ rowsAt l 8
+  none-after : (c : ℕ) → classes v ≤ c → leftAfter v c ≡ rowsAt l columns.methodName
   unfolding leftAfter
-  none-after c h = left-none v c (classes v - c) (omega arith) ∙ methods-are laid strings blob 8 (omega arith) refl
+  none-after c h = left-none v c (classes v - c) (omega arith) ∙ methods-are laid strings blob columns.methodName (omega arith) refl
 
-  decides : Ascends (cell t l 6) (rowsAt l 6) → (d c : ℕ) → classes v ≡ c + suc d → (cell t l 6 (c + 1) ≡ 0 → ⊥)
-      → leftAfter v c ≡ takes (cell t l 6 (c + 1)) (rowsAt l 8)
+  decides : Ascends (cell t l columns.methodList) (rowsAt l columns.methodList) → (d c : ℕ) → classes v ≡ c + suc d → (cell t l columns.methodList (c + 1) ≡ 0 → ⊥)
+      → leftAfter v c ≡ takes (cell t l columns.methodList (c + 1)) (rowsAt l columns.methodName)
   decides up zero c e n = left-step v c (omega arith) ∙ ap₂ takes (list-at laid strings blob c (omega arith)) (none-after (c + 1) (omega arith))
   decides up (suc d) c e n =
-      let next = up (c + 1) (omega (arith, classes-are laid strings blob 6 (omega arith) refl)) in
+      let next = up (c + 1) (omega (arith, classes-are laid strings blob columns.methodList (omega arith) refl)) in
       left-step v c (omega arith) ∙ ap₂ takes (list-at laid strings blob c (omega arith)) (decides up d (c + 1) (omega arith) (λ z. n (omega arith)))
       ∙ takes-twice _ _ _ n next
 
-  pub next-decides : Ascends (cell t l 6) (rowsAt l 6) → (row : ℕ) {x all left : ℕ} → 0 < row → row < rowsAt l 6
-      → x ≡ cell t l 6 row → (x ≡ 0 → ⊥) → all ≡ rowsAt l 8 → left ≡ takes x all → left ≡ leftAfter v (row - 1)
+  pub next-decides : Ascends (cell t l columns.methodList) (rowsAt l columns.methodList) → (row : ℕ) {x all left : ℕ} → 0 < row → row < rowsAt l columns.methodList
+      → x ≡ cell t l columns.methodList row → (x ≡ 0 → ⊥) → all ≡ rowsAt l columns.methodName → left ≡ takes x all → left ≡ leftAfter v (row - 1)
   next-decides up row {x} z h read n a e =
       let one : row - 1 + 1 ≡ row = omega arith in
-      let same : cell t l 6 (row - 1 + 1) ≡ x = ap (cell t l 6) one ∙ sym read in
-      e ∙ ap₂ takes (sym same) a ∙ sym (decides up (classes v - row) (row - 1) (omega (arith, classes-are laid strings blob 6 (omega arith) refl)) (λ q. n (sym same ∙ q)))
+      let same : cell t l columns.methodList (row - 1 + 1) ≡ x = ap (cell t l columns.methodList) one ∙ sym read in
+      e ∙ ap₂ takes (sym same) a ∙ sym (decides up (classes v - row) (row - 1) (omega (arith, classes-are laid strings blob columns.methodList (omega arith) refl)) (λ q. n (sym same ∙ q)))

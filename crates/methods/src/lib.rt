@@ -7,6 +7,7 @@ ghost use mathlib.Core.Path.{_≡_};
 ghost use mathlib.Core.List.{List};
 ghost use Prim.Native.Nat.{ℕ, _-_, _<_, _≤_};
 ghost use Rattle.record.specs.Methods.{takes, leftAfter};
+ghost use Rattle.rows.specs.Columns as columns;
 ghost use Rattle.rows.specs.Layout.{Laid, rowsAt, viewIn};
 ghost use Rattle.methods.specs.Ranges.{RangeOf};
 
@@ -30,7 +31,7 @@ fn take_from(column: u32, left: usize) -> usize
 // How many methods the classes after a TypeDef row have left, taken class by class.
 fn scan_left(tables: &[u8], layout: &rows::Layout, row: usize) -> usize
     requires { ⌜ Laid (now tables) (now layout) ⌝ }
-    requires { ⌜ (0 < row) × (row ≤ rowsAt (now layout) 6) ⌝ }
+    requires { ⌜ (0 < row) × (row ≤ rowsAt (now layout) columns.methodList) ⌝ }
     ensures { λ r. ⌜ ((strings blob : List ℕ) → r ≡ leftAfter (viewIn (now (tables .entry)) (now (layout .entry)) strings blob) (row - 1)) ⌝ }
 {
     let mut left = rows::count_rows(layout, columns::METHOD_NAME);
@@ -48,7 +49,7 @@ fn scan_left(tables: &[u8], layout: &rows::Layout, row: usize) -> usize
 // The same. Where MethodList is known to ascend, the next class alone decides, unless its column is 0: no class after it begins before it.
 fn left_after(tables: &[u8], layout: &rows::Layout, row: usize) -> usize
     requires { ⌜ Laid (now tables) (now layout) ⌝ }
-    requires { ⌜ (0 < row) × (row ≤ rowsAt (now layout) 6) ⌝ }
+    requires { ⌜ (0 < row) × (row ≤ rowsAt (now layout) columns.methodList) ⌝ }
     ensures { λ r. ⌜ ((strings blob : List ℕ) → r ≡ leftAfter (viewIn (now (tables .entry)) (now (layout .entry)) strings blob) (row - 1)) ⌝ }
 {
     if rows::is_marked(layout, columns::METHOD_LIST) {
@@ -65,7 +66,7 @@ fn left_after(tables: &[u8], layout: &rows::Layout, row: usize) -> usize
 // The methods of the class at a TypeDef row.
 pub fn method_range(tables: &[u8], layout: &rows::Layout, row: TypeDefRow) -> Range
     requires { ⌜ Laid (now tables) (now layout) ⌝ }
-    requires { ⌜ (1 < row .0) × (row .0 ≤ rowsAt (now layout) 6) ⌝ }
+    requires { ⌜ (1 < row .0) × (row .0 ≤ rowsAt (now layout) columns.methodList) ⌝ }
     ensures { λ r. ⌜ ((strings blob : List ℕ) → RangeOf (viewIn (now (tables .entry)) (now (layout .entry)) strings blob) (row .0 - 2) (r .first) (r .end)) ⌝ }
 {
     let own = wide(row.0);

@@ -24,6 +24,7 @@ use Rattle.record.specs.Missing.{over}
 use Rattle.record.specs.Namespaces.{cut, fullName}
 use Rattle.record.specs.View.{viewOf, otherRow}
 use Rattle.record.specs.Names.{classFullName, refFullName}
+use Rattle.rows.specs.Columns as columns
 use Rattle.rows.specs.Layout.{optionsIn, headerIn, rowsAt, cell, Laid, viewIn}
 use Rattle.rows.proofs.Laws.{rows-at}
 use Rattle.names.specs.Naming.{nameIn, spaceIn, dotted, frontIn, behindFront}
@@ -46,15 +47,15 @@ said-text m e w = rw e (written w)
 
 -- A name that was written behind its front, or that does not fit, by itself or with the front.
 module _ {b b′ : List ℕ} {at : ℕ} (t l strings : List ℕ) (r : ℕ) {m m′ : Text} (e : m ≡ m′) where
-  pub front-wrote : {at′ : ℕ} → Wrote b at (frontIn t l strings (rowsAt l 15) r ++ m) b′ at′ → Wrote b at (behindFront t l strings r m′) b′ at′
+  pub front-wrote : {at′ : ℕ} → Wrote b at (frontIn t l strings (rowsAt l columns.nested) r ++ m) b′ at′ → Wrote b at (behindFront t l strings r m′) b′ at′
   unfolding behindFront
   front-wrote w = rw (← e) w
 
   pub over-name : length b < at + length m → Kept b at b′ → Wrote b at (behindFront t l strings r m′) b′ (length b + 1)
   unfolding behindFront
-  over-name h k = wrote-over-kept _ _ (omega (arith, length-append (frontIn t l strings (rowsAt l 15) r) m′, ap length e)) k
+  over-name h k = wrote-over-kept _ _ (omega (arith, length-append (frontIn t l strings (rowsAt l columns.nested) r) m′, ap length e)) k
 
-  pub over-front : length b < at + length (frontIn t l strings (rowsAt l 15) r ++ m) → Kept b at b′
+  pub over-front : length b < at + length (frontIn t l strings (rowsAt l columns.nested) r ++ m) → Kept b at b′
       → Wrote b at (behindFront t l strings r m′) b′ (length b + 1)
   over-front h k = front-wrote (wrote-over-kept _ _ h k)
 
@@ -73,54 +74,54 @@ module _ {b b′ : List ℕ} {at at′ : ℕ} {p : Part} where
 
 module _ {t l : List ℕ} (laid : Laid t l) (strings blob : List ℕ) where
   -- The full name of a class by the pass over the NestedClass rows.
-  class-is : (r : ℕ) → classFullName (viewIn t l strings blob) r ≡ fullName (spaceIn t l strings (rowsAt l 15) r) (nameIn t l strings r)
+  class-is : (r : ℕ) → classFullName (viewIn t l strings blob) r ≡ fullName (spaceIn t l strings (rowsAt l columns.nested) r) (nameIn t l strings r)
   unfolding classFullName viewOf spaceIn nameIn
-  class-is r = rw (rows-at laid 15 (omega arith))
+  class-is r = rw (rows-at laid columns.nested (omega arith))
 
   pub said-class : (r : ℕ) (m : Text) {b b′ : List ℕ} {at at′ : ℕ} → nameIn t l strings r ≡ some m
       → Wrote b at (behindFront t l strings r m) b′ at′ → Said b at b′ (classFullName (viewIn t l strings blob) r) (some at′)
   unfolding behindFront
   said-class r m e w =
-      said-text _ (class-is r ∙ ap (fullName (spaceIn t l strings (rowsAt l 15) r)) e ∙ whole (spaceIn t l strings (rowsAt l 15) r) m) w
+      said-text _ (class-is r ∙ ap (fullName (spaceIn t l strings (rowsAt l columns.nested) r)) e ∙ whole (spaceIn t l strings (rowsAt l columns.nested) r) m) w
 
   pub class-bare : (r : ℕ) → nameIn t l strings r ≡ none → classFullName (viewIn t l strings blob) r ≡ none
-  class-bare r e = class-is r ∙ ap (fullName (spaceIn t l strings (rowsAt l 15) r)) e ∙ bare (spaceIn t l strings (rowsAt l 15) r)
+  class-bare r e = class-is r ∙ ap (fullName (spaceIn t l strings (rowsAt l columns.nested) r)) e ∙ bare (spaceIn t l strings (rowsAt l columns.nested) r)
 
   -- TypeRef row r, from 1.
-  kept : rowsAt l 0 ≡ keptRows (optionsIn l) (headerIn t l) (length t) typeRef
-  kept = rows-at laid 0 (omega arith)
+  kept : rowsAt l columns.refName ≡ keptRows (optionsIn l) (headerIn t l) (length t) typeRef
+  kept = rows-at laid columns.refName (omega arith)
 
   pub ref-null : (r : ℕ) → r ≡ 0 → refFullName (viewIn t l strings blob) r ≡ none
   unfolding refFullName fullName
   ref-null r e = rw (eq-eqb r 0 e)
 
   module _ (r : ℕ) (n : r ≡ 0 → ⊥) where
-    pub ref-past : rowsAt l 0 < r → refFullName (viewIn t l strings blob) r ≡ none
+    pub ref-past : rowsAt l columns.refName < r → refFullName (viewIn t l strings blob) r ≡ none
     unfolding refFullName viewOf otherRow fullName
     ref-past h = rw (ne-eqb r 0 n, le-ltb (r - 1) (keptRows (optionsIn l) (headerIn t l) (length t) typeRef) (omega (arith, kept)))
 
-    module _ (h : r ≤ rowsAt l 0) where
-      ref-is : refFullName (viewIn t l strings blob) r ≡ fullName (string strings (cell t l 1 (r - 1))) (over cut (string strings (cell t l 0 (r - 1))))
+    module _ (h : r ≤ rowsAt l columns.refName) where
+      ref-is : refFullName (viewIn t l strings blob) r ≡ fullName (string strings (cell t l columns.refNamespace (r - 1))) (over cut (string strings (cell t l columns.refName (r - 1))))
       unfolding refFullName viewOf otherRow
       ref-is = rw (ne-eqb r 0 n, lt-ltb (r - 1) (keptRows (optionsIn l) (headerIn t l) (length t) typeRef) (omega (arith, kept)))
 
-      pub ref-bare : {p : Part} {why : Absence} → p ≡ stringAt strings (cell t l 0 (r - 1)) → p ≡ Absent why
+      pub ref-bare : {p : Part} {why : Absence} → p ≡ stringAt strings (cell t l columns.refName (r - 1)) → p ≡ Absent why
           → refFullName (viewIn t l strings blob) r ≡ none
       ref-bare e f =
           ref-is
-          ∙ ap (λ (o : Option Text). fullName (string strings (cell t l 1 (r - 1))) (over cut o)) (string-none strings (cell t l 0 (r - 1)) (sym f ∙ e))
-          ∙ bare (string strings (cell t l 1 (r - 1)))
+          ∙ ap (λ (o : Option Text). fullName (string strings (cell t l columns.refNamespace (r - 1))) (over cut o)) (string-none strings (cell t l columns.refName (r - 1)) (sym f ∙ e))
+          ∙ bare (string strings (cell t l columns.refNamespace (r - 1)))
 
       pub said-ref : {p : Part} {start len n at at₁ at₂ : ℕ} {b b₁ b₂ : List ℕ} {text : List ℕ}
-          → p ≡ stringAt strings (cell t l 0 (r - 1)) → p ≡ Found start len → n ≡ before 0x60 (part strings start len)
-          → Wrote b at (dotted (string strings (cell t l 1 (r - 1)))) b₁ at₁ → text ≡ part strings start n → Wrote b₁ at₁ text b₂ at₂
+          → p ≡ stringAt strings (cell t l columns.refName (r - 1)) → p ≡ Found start len → n ≡ before 0x60 (part strings start len)
+          → Wrote b at (dotted (string strings (cell t l columns.refNamespace (r - 1)))) b₁ at₁ → text ≡ part strings start n → Wrote b₁ at₁ text b₂ at₂
           → Said b at b₂ (refFullName (viewIn t l strings blob) r) (some at₂)
       said-ref {start = start} {len} {n} e f q first c second =
           let at = sym f ∙ e in
-          let short = cut-part strings start len n (string-within strings (cell t l 0 (r - 1)) at) q in
+          let short = cut-part strings start len n (string-within strings (cell t l columns.refName (r - 1)) at) q in
           said-text _
           (ref-is
-          ∙ ap (λ (o : Option Text). fullName (string strings (cell t l 1 (r - 1))) (over cut o)) (string-some strings (cell t l 0 (r - 1)) at)
-          ∙ ap (λ (m : Text). fullName (string strings (cell t l 1 (r - 1))) (some m)) (short .0 ∙ sym c)
-          ∙ whole (string strings (cell t l 1 (r - 1))) _)
+          ∙ ap (λ (o : Option Text). fullName (string strings (cell t l columns.refNamespace (r - 1))) (over cut o)) (string-some strings (cell t l columns.refName (r - 1)) at)
+          ∙ ap (λ (m : Text). fullName (string strings (cell t l columns.refNamespace (r - 1))) (some m)) (short .0 ∙ sym c)
+          ∙ whole (string strings (cell t l columns.refNamespace (r - 1))) _)
           (wrote-then first second)

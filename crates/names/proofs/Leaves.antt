@@ -25,6 +25,7 @@ use Rattle.record.specs.Rows.{rowBytes}
 use Rattle.record.specs.Namespaces.{cut, classAt, nameOf}
 use Rattle.record.specs.View.{place, otherRow}
 use Rattle.layouts.specs.Read.{readColumn}
+use Rattle.rows.specs.Columns as columns
 use Rattle.rows.specs.Layout.{optionsIn, headerIn, rowsAt, cell, Laid}
 use Rattle.rows.proofs.Laws.{rows-at, le-or-lt}
 use Rattle.keys.specs.Keyed.{OnlyIn}
@@ -53,7 +54,7 @@ module _ (t l strings : List ℕ) (c r : ℕ) where
   unfolding classString
   class-low h = shows-none (rw (lt-ltb r 2 h))
 
-  module _ (laid : Laid t l) (k : c < 19) (e : readColumn c .kind ≡ typeDef) (h : 2 ≤ r) where
+  module _ (laid : Laid t l) (k : c < columns.count) (e : readColumn c .kind ≡ typeDef) (h : 2 ≤ r) where
     kept : rowsAt l c ≡ keptRows (optionsIn l) (headerIn t l) (length t) typeDef
     kept = rows-at laid c k ∙ ap (keptRows (optionsIn l) (headerIn t l) (length t)) e
 
@@ -80,7 +81,7 @@ module _ (t l strings : List ℕ) (c r : ℕ) where
 
 -- The name of a class is the string of its name column, cut at the first back-quote.
 module _ (t l strings : List ℕ) (r : ℕ) where
-  own-name : nameIn t l strings r ≡ over cut (classString t l strings 3 r)
+  own-name : nameIn t l strings r ≡ over cut (classString t l strings columns.typeName r)
   unfolding nameIn nameOf classString
   own-name = go (classAt (sizesIn (optionsIn l) (headerIn t l)) strings (otherRow (optionsIn l) (headerIn t l) t) r)
     where
@@ -90,7 +91,7 @@ module _ (t l strings : List ℕ) (r : ℕ) where
       go none = refl
       go (some bytes) = refl
 
-  pub own-missing : {p : Name} → Shows strings (classString t l strings 3 r) p → p ≡ Missing → Shows strings (nameIn t l strings r) Missing
+  pub own-missing : {p : Name} → Shows strings (classString t l strings columns.typeName r) p → p ≡ Missing → Shows strings (nameIn t l strings r) Missing
   own-missing s e = shows-none (own-name ∙ ap (over cut) (sym (s .is) ∙ ap (nameText strings) e))
 
 -- The part of a string up to its first back-quote.
@@ -102,7 +103,7 @@ cut-part s start len n inside e =
     let most = before-most 0x60 (part s start len) in
     (ap (λ (k : ℕ). take k (part s start len)) (sym e) ∙ take-take n len (drop start s) (omega arith), omega arith)
 
-pub own-at : (t l strings : List ℕ) (r : ℕ) {p : Name} {start len n : ℕ} → Shows strings (classString t l strings 3 r) p → p ≡ At start len
+pub own-at : (t l strings : List ℕ) (r : ℕ) {p : Name} {start len n : ℕ} → Shows strings (classString t l strings columns.typeName r) p → p ≡ At start len
     → n ≡ before 0x60 (part strings start len) → Shows strings (nameIn t l strings r) (At start n)
 own-at t l strings r {start = start} {len} {n} s e f =
     let short = cut-part strings start len n (subst (NameInside strings) e (s .inside)) f in
@@ -114,33 +115,33 @@ own-at t l strings r {start = start} {len} {n} s e f =
 -- The class that a NestedClass row puts around another.
 module _ (t l : List ℕ) (i r : ℕ) where
   abbrev acts : Bool
-  acts = ltb 1 (cell t l 15 i) && (ltb 1 (cell t l 16 i) && eqb r (cell t l 15 i))
+  acts = ltb 1 (cell t l columns.nested i) && (ltb 1 (cell t l columns.enclosing i) && eqb r (cell t l columns.nested i))
 
   nothing : acts ≡ false → none ≡ aroundIn t l i r
   unfolding aroundIn
   nothing e = rw e
 
-  pub around-low : cell t l 15 i < 2 → none ≡ aroundIn t l i r
-  around-low h = nothing (rw (le-ltb 1 (cell t l 15 i) (omega arith)))
+  pub around-low : cell t l columns.nested i < 2 → none ≡ aroundIn t l i r
+  around-low h = nothing (rw (le-ltb 1 (cell t l columns.nested i) (omega arith)))
 
-  pub around-other : (cell t l 15 i ≡ r → ⊥) → none ≡ aroundIn t l i r
-  around-other h = nothing (rw (ne-eqb r (cell t l 15 i) (λ e. h (sym e))) (go (ltb 1 (cell t l 15 i)) (ltb 1 (cell t l 16 i))))
+  pub around-other : (cell t l columns.nested i ≡ r → ⊥) → none ≡ aroundIn t l i r
+  around-other h = nothing (rw (ne-eqb r (cell t l columns.nested i) (λ e. h (sym e))) (go (ltb 1 (cell t l columns.nested i)) (ltb 1 (cell t l columns.enclosing i))))
     where
       go : (a b : Bool) → (a && (b && false)) ≡ false
       go true true = refl
       go true false = refl
       go false b = refl
 
-  pub around-out : cell t l 16 i < 2 → none ≡ aroundIn t l i r
-  around-out h = nothing (rw (le-ltb 1 (cell t l 16 i) (omega arith)) (go (ltb 1 (cell t l 15 i))))
+  pub around-out : cell t l columns.enclosing i < 2 → none ≡ aroundIn t l i r
+  around-out h = nothing (rw (le-ltb 1 (cell t l columns.enclosing i) (omega arith)) (go (ltb 1 (cell t l columns.nested i))))
     where
       go : (a : Bool) → (a && false) ≡ false
       go true = refl
       go false = refl
 
-  pub around-in : 1 < cell t l 15 i → 1 < cell t l 16 i → cell t l 15 i ≡ r → some (cell t l 16 i) ≡ aroundIn t l i r
+  pub around-in : 1 < cell t l columns.nested i → 1 < cell t l columns.enclosing i → cell t l columns.nested i ≡ r → some (cell t l columns.enclosing i) ≡ aroundIn t l i r
   unfolding aroundIn
-  around-in h k e = rw (lt-ltb 1 (cell t l 15 i) h, lt-ltb 1 (cell t l 16 i) k, eq-eqb r (cell t l 15 i) (sym e))
+  around-in h k e = rw (lt-ltb 1 (cell t l columns.nested i) h, lt-ltb 1 (cell t l columns.enclosing i) k, eq-eqb r (cell t l columns.nested i) (sym e))
 
 -- The search for the last row that puts a class around another: from row i up to the end none does.
 pub record Looking (t l : List ℕ) (end r i : ℕ) : Type 0 where
@@ -148,8 +149,8 @@ pub record Looking (t l : List ℕ) (end r i : ℕ) : Type 0 where
   pub none-acts : (j : ℕ) → i ≤ j → j < end → none ≡ aroundIn t l j r
 
 module _ (t l : List ℕ) (end r : ℕ) where
-  module _ {first past : ℕ} (o : OnlyIn (cell t l 15) r (rowsAt l 15) first past) where
-    pub look-start : {i : ℕ} → end ≤ rowsAt l 15 → i ≡ min end past → Looking t l end r i
+  module _ {first past : ℕ} (o : OnlyIn (cell t l columns.nested) r (rowsAt l columns.nested) first past) where
+    pub look-start : {i : ℕ} → end ≤ rowsAt l columns.nested → i ≡ min end past → Looking t l end r i
     look-start h e = record { within = omega arith; none-acts = λ j lo hi. around-other t l j r (o .behind j (omega arith) (omega arith)) }
 
     pub look-end : {i : ℕ} → Looking t l end r i → i ≤ first → LastAround t l end r Outermost

@@ -14,6 +14,7 @@ use Rattle.backwards.specs.declared.Spot.{Spot}
 use Rattle.backwards.specs.declared.Spot.the-variants.{From, NoRoom}
 use Rattle.backwards.proofs.Laws.{behind-none, behind-then, behind-kept, placed-then}
 use Rattle.record.specs.Namespaces.{fullName, ownNamespace}
+use Rattle.rows.specs.Columns as columns
 use Rattle.rows.specs.Layout.{rowsAt, cell}
 use Rattle.names.specs.Naming.{classString, nameIn, spaceIn, aroundIn, LastAround, dotted, frontIn}
 use Rattle.names.specs.declared.Outer.{Outer}
@@ -29,11 +30,11 @@ module _ (t l strings : List ℕ) where
 
   space-step : (i k : ℕ) → spaceIn t l strings (suc i) k ≡ under (aroundIn t l i k) i k
   unfolding spaceIn aroundIn nameIn
-  space-step i k = go (ltb 1 (cell t l 15 i) && (ltb 1 (cell t l 16 i) && eqb k (cell t l 15 i)))
+  space-step i k = go (ltb 1 (cell t l columns.nested i) && (ltb 1 (cell t l columns.enclosing i) && eqb k (cell t l columns.nested i)))
     where
       go : (b : Bool)
-          → cond b (fullName (spaceIn t l strings i (cell t l 16 i)) (nameIn t l strings (cell t l 16 i))) (spaceIn t l strings i k)
-          ≡ under (cond b (some (cell t l 16 i)) none) i k
+          → cond b (fullName (spaceIn t l strings i (cell t l columns.enclosing i)) (nameIn t l strings (cell t l columns.enclosing i))) (spaceIn t l strings i k)
+          ≡ under (cond b (some (cell t l columns.enclosing i)) none) i k
       go true = refl
       go false = refl
 
@@ -72,7 +73,7 @@ module _ (t l strings : List ℕ) where
       ap (λ (x : ℕ). frontIn t l strings x k) e ∙ front-past k j (i - j) (λ x lo hi. h x lo (omega arith))
 
   -- Before all rows it is the class's own namespace.
-  front-own : (i k : ℕ) → i ≤ 0 → frontIn t l strings i k ≡ dotted (classString t l strings 4 k)
+  front-own : (i k : ℕ) → i ≤ 0 → frontIn t l strings i k ≡ dotted (classString t l strings columns.typeNamespace k)
   unfolding spaceIn classString ownNamespace
   front-own i k h = let e : i ≡ 0 = omega arith in ap (λ (j : ℕ). frontIn t l strings j k) e
 
@@ -81,10 +82,10 @@ module _ (t l strings : List ℕ) where
   pub record Passing (r : ℕ) (b₀ : List ℕ) (floor end : ℕ) (b : List ℕ) (i k p : ℕ) : Type 0 where
     pub done : Text
     pub behind : Behind b₀ floor end done b p
-    pub left : frontIn t l strings (rowsAt l 15) r ≡ frontIn t l strings i k ++ done
-    pub most : i ≤ rowsAt l 15
+    pub left : frontIn t l strings (rowsAt l columns.nested) r ≡ frontIn t l strings i k ++ done
+    pub most : i ≤ rowsAt l columns.nested
 
-  pub pass-start : (r n : ℕ) (b : List ℕ) (floor end : ℕ) → n ≡ rowsAt l 15 → floor ≤ end → Passing r b floor end b n r end
+  pub pass-start : (r n : ℕ) (b : List ℕ) (floor end : ℕ) → n ≡ rowsAt l columns.nested → floor ≤ end → Passing r b floor end b n r end
   pass-start r n b floor end e h = record {
     done = [];
     behind = behind-none b floor end h;
@@ -109,12 +110,12 @@ module _ (t l strings : List ℕ) where
       found : LastAround t l i k (Nested e at)
       found = subst (LastAround t l i k) is last
 
-      left-at : frontIn t l strings (rowsAt l 15) r ≡ frontIn t l strings (suc at) k ++ s .done
+      left-at : frontIn t l strings (rowsAt l columns.nested) r ≡ frontIn t l strings (suc at) k ++ s .done
       left-at =
           s .left ∙ ap (λ (x : Text). x ++ s .done) (front-back i k (suc at) (omega (arith, found .0)) (λ x lo hi. found .2 x (omega arith) hi))
 
       left-in : (m : Text) → nameIn t l strings (e .0) ≡ some m
-          → frontIn t l strings (rowsAt l 15) r ≡ frontIn t l strings at (e .0) ++ ((m ++ 0x2E ∷ []) ++ s .done)
+          → frontIn t l strings (rowsAt l columns.nested) r ≡ frontIn t l strings at (e .0) ++ ((m ++ 0x2E ∷ []) ++ s .done)
       left-in m n =
           left-at ∙ ap (λ (x : Text). x ++ s .done) (front-in at k (e .0) m (found .1) n)
           ∙ append-assoc (frontIn t l strings at (e .0)) (m ++ 0x2E ∷ []) (s .done)
@@ -132,24 +133,24 @@ module _ (t l strings : List ℕ) where
       }
 
       pub pass-full : (m : Text) {b′ : List ℕ} → nameIn t l strings (e .0) ≡ some m → (p < floor + length (m ++ 0x2E ∷ [])) × Kept b floor b′
-          → Placed b₀ floor end (frontIn t l strings (rowsAt l 15) r) b′ NoRoom
+          → Placed b₀ floor end (frontIn t l strings (rowsAt l columns.nested) r) b′ NoRoom
       pass-full m n w =
           let whole = ap length (left-in m n) in
           let outer = length-append (frontIn t l strings at (e .0)) ((m ++ 0x2E ∷ []) ++ s .done) in
           let inner = length-append (m ++ 0x2E ∷ []) (s .done) in
           (omega (arith, s .behind .place), behind-kept (s .behind) (w .1))
 
-      pub pass-bare : nameIn t l strings (e .0) ≡ none → Placed b₀ floor end (frontIn t l strings (rowsAt l 15) r) b (From p)
+      pub pass-bare : nameIn t l strings (e .0) ≡ none → Placed b₀ floor end (frontIn t l strings (rowsAt l columns.nested) r) b (From p)
       pass-bare n = rw (left-at ∙ ap (λ (x : Text). x ++ s .done) (front-bare at k (e .0) (found .1) n)) (s .behind)
 
     -- All rows are passed.
     module _ (h : i ≤ 0) where
-      pub pass-own : (m : Text) (b′ : List ℕ) (spot : Spot) → classString t l strings 4 k ≡ some m → Placed b floor p (m ++ 0x2E ∷ []) b′ spot
-          → Placed b₀ floor end (frontIn t l strings (rowsAt l 15) r) b′ spot
+      pub pass-own : (m : Text) (b′ : List ℕ) (spot : Spot) → classString t l strings columns.typeNamespace k ≡ some m → Placed b floor p (m ++ 0x2E ∷ []) b′ spot
+          → Placed b₀ floor end (frontIn t l strings (rowsAt l columns.nested) r) b′ spot
       unfolding dotted
       pass-own m b′ spot n w =
           rw (s .left ∙ ap (λ (x : Text). x ++ s .done) (front-own i k h ∙ ap dotted n)) (placed-then (s .behind) b′ (m ++ 0x2E ∷ []) spot w)
 
-      pub pass-none : classString t l strings 4 k ≡ none → Placed b₀ floor end (frontIn t l strings (rowsAt l 15) r) b (From p)
+      pub pass-none : classString t l strings columns.typeNamespace k ≡ none → Placed b₀ floor end (frontIn t l strings (rowsAt l columns.nested) r) b (From p)
       unfolding dotted
       pass-none n = rw (s .left ∙ ap (λ (x : Text). x ++ s .done) (front-own i k h ∙ ap dotted n)) (s .behind)

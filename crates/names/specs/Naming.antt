@@ -18,6 +18,7 @@ use Rattle.record.specs.Rows.{runs}
 use Rattle.record.specs.Namespaces.{classAt, nameOf, ownNamespace, nest}
 use Rattle.record.specs.View.{otherRow, sideRow}
 use Rattle.layouts.specs.Read.{readColumn}
+use Rattle.rows.specs.Columns as columns
 use Rattle.rows.specs.Layout.{optionsIn, headerIn, rowsAt}
 use Rattle.names.specs.declared.Name.{Name}
 use Rattle.names.specs.declared.Name.the-variants.{At, Missing}
@@ -88,4 +89,4 @@ frontIn t l strings i r = dotted (spaceIn t l strings i r)
 
 -- A name behind what stands in front of it once all NestedClass rows have acted.
 unfoldable pub behindFront : List ℕ → List ℕ → List ℕ → ℕ → Text → Text
-behindFront t l strings r name = frontIn t l strings (rowsAt l 15) r ++ name
+behindFront t l strings r name = frontIn t l strings (rowsAt l columns.nested) r ++ name

@@ -17,6 +17,7 @@ ghost use Rattle.heaps.specs.Lookups.{before, string};
 ghost use Rattle.layouts.specs.Kinds.{typeDef};
 ghost use Rattle.record.specs.Names.{classFullName, refFullName};
 ghost use Rattle.layouts.specs.Read.{readColumn};
+ghost use Rattle.rows.specs.Columns as columns;
 ghost use Rattle.rows.specs.Layout.{Laid, rowsAt, cell, viewIn};
 ghost use Rattle.names.specs.Naming.{Shows, classString, nameIn, aroundIn, aroundSays, LastAround, dotted, frontIn, behindFront};
 
@@ -47,7 +48,7 @@ fn class_string(
     row: TypeDefRow,
 ) -> Name
     requires { ⌜ Laid (now tables) (now layout) ⌝ }
-    requires { ⌜ (column < 19) × (readColumn column .kind ≡ typeDef) ⌝ }
+    requires { ⌜ (column < columns.count) × (readColumn column .kind ≡ typeDef) ⌝ }
     ensures { λ r. ⌜ Shows (now (strings .entry)) (classString (now (tables .entry)) (now (layout .entry)) (now (strings .entry)) column (row .0)) r ⌝ }
 {
     let r = row.0 as usize;
@@ -89,7 +90,7 @@ fn class_own_name(tables: &[u8], strings: &[u8], layout: &Layout, row: TypeDefRo
 // The class that NestedClass row i puts around another. Rows with either index 0 or 1 do nothing.
 fn class_around(tables: &[u8], layout: &Layout, i: usize, row: TypeDefRow) -> Around
     requires { ⌜ Laid (now tables) (now layout) ⌝ }
-    requires { ⌜ i < rowsAt (now layout) 15 ⌝ }
+    requires { ⌜ i < rowsAt (now layout) columns.nested ⌝ }
     ensures { λ r. ⌜ aroundSays r ≡ aroundIn (now (tables .entry)) (now (layout .entry)) i (row .0) ⌝ }
 {
     let nested = rows::read_column(tables, layout, rows::columns::NESTED, i);
@@ -115,7 +116,7 @@ fn least(a: usize, b: usize) -> usize
 // Of the rows before an end the last that puts a class around another. Only rows whose nested class it is can.
 fn last_around(tables: &[u8], layout: &Layout, end: usize, row: TypeDefRow) -> Outer
     requires { ⌜ Laid (now tables) (now layout) ⌝ }
-    requires { ⌜ end ≤ rowsAt (now layout) 15 ⌝ }
+    requires { ⌜ end ≤ rowsAt (now layout) columns.nested ⌝ }
     ensures { λ r. ⌜ LastAround (now (tables .entry)) (now (layout .entry)) end (row .0) r ⌝ }
 {
     let own = keys::key_rows(tables, layout, rows::columns::NESTED, row.0 as usize);
@@ -161,7 +162,7 @@ fn put_front(
 ) -> Spot
     requires { ⌜ Laid (now tables) (now layout) ⌝ }
     requires { ⌜ (floor ≤ end) × (end ≤ length (now buf)) ⌝ }
-    ensures { λ r. ⌜ Placed (now (buf .entry)) floor end (frontIn (now (tables .entry)) (now (layout .entry)) (now (strings .entry)) (rowsAt (now (layout .entry)) 15) (row .0)) (now (buf .exit)) r ⌝ }
+    ensures { λ r. ⌜ Placed (now (buf .entry)) floor end (frontIn (now (tables .entry)) (now (layout .entry)) (now (strings .entry)) (rowsAt (now (layout .entry)) columns.nested) (row .0)) (now (buf .exit)) r ⌝ }
 {
     let mut i = rows::count_rows(layout, rows::columns::NESTED);
     let mut class = row;
@@ -278,8 +279,8 @@ fn push_ref_namespace(
     i: usize,
 ) -> usize
     requires { ⌜ Laid (now tables) (now layout) ⌝ }
-    requires { ⌜ i < rowsAt (now layout) 1 ⌝ }
-    ensures { λ r. ⌜ Wrote (now (buf .entry)) at (dotted (string (now (strings .entry)) (cell (now (tables .entry)) (now (layout .entry)) 1 i))) (now (buf .exit)) r ⌝ }
+    requires { ⌜ i < rowsAt (now layout) columns.refNamespace ⌝ }
+    ensures { λ r. ⌜ Wrote (now (buf .entry)) at (dotted (string (now (strings .entry)) (cell (now (tables .entry)) (now (layout .entry)) columns.refNamespace i))) (now (buf .exit)) r ⌝ }
 {
     match rows::read_string(tables, strings, layout, rows::columns::REF_NAMESPACE, i) {
         Part::Found { start, len } => {

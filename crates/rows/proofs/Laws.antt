@@ -32,6 +32,7 @@ use Rattle.record.specs.View.{place}
 use Rattle.record.proofs.Read.{column-at, column-inside}
 use Rattle.record.proofs.Extents.{kept-le}
 use Rattle.layouts.specs.Read.{Of, readColumns, readColumn, offsetIn, bytesIn}
+use Rattle.rows.specs.Columns as columns
 use Rattle.rows.specs.Layout.{columnNumbers, allNumbers, layoutOf, optionsIn, headerIn, rowsAt, markAt, cell, Ascends, Laid}
 
 -- The numbers of column c stand from 4 * c on.
@@ -61,7 +62,7 @@ known-at (x ∷ cs) d t zero l =
 known-at (x ∷ cs) d t (suc c) l =
     known-at cs d (and-right (ltb (x .place) _) (known cs) (and-right (ltb (x .kind) 45) _ t)) c (le-of-suc-le-suc l)
 
-pub column-known : (c : ℕ) → c < 19 → (readColumn c .kind < 45) × (readColumn c .place < length (columnsOf (readColumn c .kind)))
+pub column-known : (c : ℕ) → c < columns.count → (readColumn c .kind < 45) × (readColumn c .place < length (columnsOf (readColumn c .kind)))
 unfolding tables
 column-known c l = known-at readColumns _ tt c l
 
@@ -79,18 +80,18 @@ module _ {t l : List ℕ} (laid : Laid t l) where
   abbrev h : Header
   h = headerIn t l
 
-  number-at : (c d : ℕ) → c < 19 → d < 4 → getD l (4 * c + d) 0 ≡ getD (columnNumbers o h (length t) (readColumn c)) d 0
+  number-at : (c d : ℕ) → c < columns.count → d < 4 → getD l (4 * c + d) 0 ≡ getD (columnNumbers o h (length t) (readColumn c)) d 0
   unfolding layoutOf
   number-at c d k m = laid .is (4 * c + d) (omega arith) ∙ numbers-at o h (length t) readColumns (o .limit ∷ cond (o .security) 1 0 ∷ []) _ c d k m
 
-  first-at : (c : ℕ) → c < 19 → getD l (4 * c) 0 ≡ place o h t (readColumn c .kind) .start + offsetIn (sizesIn o h) (readColumn c)
+  first-at : (c : ℕ) → c < columns.count → getD l (4 * c) 0 ≡ place o h t (readColumn c .kind) .start + offsetIn (sizesIn o h) (readColumn c)
   first-at c k = let e : 4 * c ≡ 4 * c + 0 = omega arith in ap (λ (x : ℕ). getD l x 0) e ∙ number-at c 0 k (omega arith)
 
   -- The kept rows of the table of column c.
-  pub rows-at : (c : ℕ) → c < 19 → rowsAt l c ≡ keptRows o h (length t) (readColumn c .kind)
+  pub rows-at : (c : ℕ) → c < columns.count → rowsAt l c ≡ keptRows o h (length t) (readColumn c .kind)
   rows-at c k = number-at c 3 k (omega arith)
 
-  pub reads : (c i : ℕ) → c < 19 → i < rowsAt l c → Reads t l c i
+  pub reads : (c i : ℕ) → c < columns.count → i < rowsAt l c → Reads t l c i
   unfolding rowSize
   reads c i k lt =
       let a = first-at c k in
@@ -129,11 +130,11 @@ module _ {b b′ : List ℕ} {r : Reply} {p : Part} where
   named-absent s i e f n = rw (string-none s i (sym f ∙ e)) n
 
 -- Columns of one table have the same rows.
-pub same-rows : {t l : List ℕ} → Laid t l → (c d : ℕ) → c < 19 → d < 19 → readColumn c .kind ≡ readColumn d .kind → rowsAt l c ≡ rowsAt l d
+pub same-rows : {t l : List ℕ} → Laid t l → (c d : ℕ) → c < columns.count → d < columns.count → readColumn c .kind ≡ readColumn d .kind → rowsAt l c ≡ rowsAt l d
 same-rows {t} {l} laid c d k m e = rows-at laid c k ∙ ap (keptRows (optionsIn l) (headerIn t l) (length t)) e ∙ sym (rows-at laid d m)
 
 -- No table has more rows than 32 bits can say.
-pub rows-narrow : {t l : List ℕ} → Laid t l → (c : ℕ) → c < 19 → rowsAt l c < 4_294_967_296
+pub rows-narrow : {t l : List ℕ} → Laid t l → (c : ℕ) → c < columns.count → rowsAt l c < 4_294_967_296
 rows-narrow {t} {l} laid c k =
     let kind : readColumn c .kind < 64 = omega (arith, column-known c k .0) in
     omega (
@@ -146,7 +147,7 @@ rows-narrow {t} {l} laid c k =
     )
 
 -- A column that is marked ascends, also from one row to a later one.
-pub marked-ascends : {t l : List ℕ} → Laid t l → (c : ℕ) → c < 19 → {r : Bool} → r ≡ eqb (markAt l c) 1 → r ≡ true → Ascends (cell t l c) (rowsAt l c)
+pub marked-ascends : {t l : List ℕ} → Laid t l → (c : ℕ) → c < columns.count → {r : Bool} → r ≡ eqb (markAt l c) 1 → r ≡ true → Ascends (cell t l c) (rowsAt l c)
 marked-ascends {t} {l} laid c k e m = laid .marked c k (eqb→eq (markAt l c) 1 (rw (sym e ∙ m) tt))
 
 pub ascending : (f : ℕ → ℕ) (n : ℕ) → Ascends f n → (i d : ℕ) → i + d < n → f i ≤ f (i + d)

@@ -15,6 +15,7 @@ use Rattle.tables.specs.Extents.{extent, keptRows, sizesIn}
 use Rattle.record.specs.Columns.{column}
 use Rattle.record.specs.Rows.{rowBytes}
 use Rattle.record.specs.View.{View, view, place}
+use Rattle.rows.specs.Columns as columns
 
 -- By the options, what opening found, and the length of the tables stream:
 module _ (o : Options) (h : Header) (n : ℕ) where
@@ -36,7 +37,7 @@ module _ (o : Options) (h : Header) (n : ℕ) where
 
 -- What the layout l of a tables stream t says. The options:
 unfoldable pub optionsIn : List ℕ → Options
-optionsIn l = record { limit = getD l 76 0; security = eqb (getD l 77 0) 1 }
+optionsIn l = record { limit = getD l columns.limit 0; security = eqb (getD l columns.security 0) 1 }
 
 -- the kept rows of the table that column c is of,
 abbrev pub rowsAt : List ℕ → ℕ → ℕ
@@ -57,14 +58,14 @@ Ascends f n = (i : ℕ) → i + 1 < n → f i ≤ f (i + 1)
 
 -- The mark of column c: 1 where the column is known to ascend.
 abbrev pub markAt : List ℕ → ℕ → ℕ
-markAt l c = getD l (78 + c) 0
+markAt l c = getD l (columns.marks + c) 0
 
 -- l is the layout of the tables stream t, which was opened and not refused. The limit of rows, an option, has 32 bits. The marks are true.
 pub record Laid (t l : List ℕ) : Type 0 where
   pub ready : headerIn t l .answer ≡ Ready
   pub narrow : optionsIn l .limit < 4_294_967_296
-  pub is : (i : ℕ) → i < 78 → getD l i 0 ≡ getD (layoutOf (optionsIn l) (headerIn t l) (length t)) i 0
-  pub marked : (c : ℕ) → c < 19 → markAt l c ≡ 1 → Ascends (cell t l c) (rowsAt l c)
+  pub is : (i : ℕ) → i < columns.marks → getD l i 0 ≡ getD (layoutOf (optionsIn l) (headerIn t l) (length t)) i 0
+  pub marked : (c : ℕ) → c < columns.count → markAt l c ≡ 1 → Ascends (cell t l c) (rowsAt l c)
 
 -- The view of a stream by its layout.
 abbrev pub viewIn : List ℕ → List ℕ → List ℕ → List ℕ → View

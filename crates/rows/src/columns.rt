@@ -1,4 +1,5 @@
-// The numbers of the columns that are read, in a layout (specs/Layout.antt, `readColumns`).
+// Where the numbers of a layout stand, under the names and in the order of specs/Columns.antt: the columns that are read, and what is
+// behind their numbers.
 
 // TypeRef, II.22.38
 pub const REF_NAME: usize = 0;
@@ -38,3 +39,14 @@ pub const ENCLOSING: usize = 16;
 pub const OWNER: usize = 17;
 
 pub const GENERIC_NAME: usize = 18;
+
+// How many columns there are. The layout has four numbers for each.
+pub const COUNT: usize = layouts::columns::COUNT;
+// Behind those stand the options that the stream was opened with, the limit of rows and whether DeclSecurity counts,
+pub const LIMIT: usize = 4 * COUNT;
+
+pub const SECURITY: usize = LIMIT + 1;
+// and a mark for each column.
+pub const MARKS: usize = SECURITY + 1;
+
+pub const SIZE: usize = MARKS + COUNT;

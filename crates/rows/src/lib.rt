@@ -9,14 +9,15 @@ ghost use Prim.Native.Nat.{_<_};
 ghost use lib.Dec.{eqb};
 ghost use Rattle.buffers.specs.Replies.{nameOr5, Named};
 ghost use Rattle.heaps.specs.Lookups.{stringAt, string};
+ghost use Rattle.rows.specs.Columns as columns;
 ghost use Rattle.rows.specs.Layout.{Laid, rowsAt, markAt, cell};
 
-// Four numbers for each of the 19 columns that are read, the two options, and a mark for each column: 1 where it is known to ascend.
-pub type Layout = [usize; 97];
+// Four numbers for each column that is read, the two options, and a mark for each column: 1 where it is known to ascend.
+pub type Layout = [usize; columns::SIZE];
 
 // How many rows of the table of a column are kept.
 pub fn count_rows(layout: &Layout, column: usize) -> usize
-    requires { ⌜ column < 19 ⌝ }
+    requires { ⌜ column < columns.count ⌝ }
     ensures { λ r. ⌜ r ≡ rowsAt (now (layout .entry)) column ⌝ }
 {
     layout[4 * column + 3]
@@ -24,16 +25,16 @@ pub fn count_rows(layout: &Layout, column: usize) -> usize
 
 // Whether a column is marked: known to ascend.
 pub fn is_marked(layout: &Layout, column: usize) -> bool
-    requires { ⌜ column < 19 ⌝ }
+    requires { ⌜ column < columns.count ⌝ }
     ensures { λ r. ⌜ r ≡ eqb (markAt (now (layout .entry)) column) 1 ⌝ }
 {
-    layout[78 + column] == 1
+    layout[columns::MARKS + column] == 1
 }
 
 // The number in a column of row i, from 0.
 pub fn read_column(tables: &[u8], layout: &Layout, column: usize, i: usize) -> u32
     requires { ⌜ Laid (now tables) (now layout) ⌝ }
-    requires { ⌜ (column < 19) × (i < rowsAt (now layout) column) ⌝ }
+    requires { ⌜ (column < columns.count) × (i < rowsAt (now layout) column) ⌝ }
     ensures { λ r. ⌜ r ≡ cell (now (tables .entry)) (now (layout .entry)) column i ⌝ }
 {
     let first = layout[4 * column];
@@ -45,7 +46,7 @@ pub fn read_column(tables: &[u8], layout: &Layout, column: usize, i: usize) -> u
 // The string that it finds.
 pub fn read_string(tables: &[u8], strings: &[u8], layout: &Layout, column: usize, i: usize) -> Part
     requires { ⌜ Laid (now tables) (now layout) ⌝ }
-    requires { ⌜ (column < 19) × (i < rowsAt (now layout) column) ⌝ }
+    requires { ⌜ (column < columns.count) × (i < rowsAt (now layout) column) ⌝ }
     ensures { λ r. ⌜ r ≡ stringAt (now (strings .entry)) (cell (now (tables .entry)) (now (layout .entry)) column i) ⌝ }
 {
     let index = read_column(tables, layout, column, i);
@@ -62,7 +63,7 @@ pub fn write_string(
     i: usize,
 ) -> Reply
     requires { ⌜ Laid (now tables) (now layout) ⌝ }
-    requires { ⌜ (column < 19) × (i < rowsAt (now layout) column) ⌝ }
+    requires { ⌜ (column < columns.count) × (i < rowsAt (now layout) column) ⌝ }
     ensures { λ r. ⌜ Named (nameOr5 (string (now (strings .entry)) (cell (now (tables .entry)) (now (layout .entry)) column i))) (now (buf .entry)) r (now (buf .exit)) ⌝ }
 {
     match read_string(tables, strings, layout, column, i) {

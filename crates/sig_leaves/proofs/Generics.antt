@@ -25,6 +25,7 @@ use Rattle.record.specs.View.{View}
 use Rattle.record.specs.Readings.{known}
 use Rattle.record.specs.Types.{generic}
 use Rattle.record.specs.Names.{nameAt}
+use Rattle.rows.specs.Columns as columns
 use Rattle.rows.specs.Layout.{rowsAt, cell, Laid, viewIn}
 use Rattle.keys.specs.Keyed.{FoundIs}
 use Rattle.keys.specs.declared.Row.{Row}
@@ -49,9 +50,9 @@ module _ {b b′ : List ℕ} {at : ℕ} {p : Part} where
   said-no-string s i e f k = said-missing (string-none s i (sym f ∙ e)) k
 
 -- Parameter i of an owner as stored.
-module _ {t l : List ℕ} (laid : Laid t l) (strings blob : List ℕ) (k i : ℕ) {r : Row} (found : FoundIs (cell t l 17) k (rowsAt l 17) i r)
+module _ {t l : List ℕ} (laid : Laid t l) (strings blob : List ℕ) (k i : ℕ) {r : Row} (found : FoundIs (cell t l columns.owner) k (rowsAt l columns.owner) i r)
     {b b′ : List ℕ} {at : ℕ} where
-  pub said-owned : {row : ℕ} {o : Option ℕ} → r ≡ At row → Said b at b′ (string strings (cell t l 18 row)) o
+  pub said-owned : {row : ℕ} {o : Option ℕ} → r ≡ At row → Said b at b′ (string strings (cell t l columns.genericName row)) o
       → Said b at b′ (nameAt (viewIn t l strings blob .generics k) i) o
   said-owned e w = rw (generics-found laid strings blob k i _ found e .1) w
 

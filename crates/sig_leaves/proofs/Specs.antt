@@ -16,6 +16,7 @@ use Rattle.layouts.specs.Kinds.{typeSpec}
 use Rattle.tables.specs.Extents.{keptRows}
 use Rattle.record.specs.View.{viewOf, otherRow}
 use Rattle.record.specs.Names.{specBlob}
+use Rattle.rows.specs.Columns as columns
 use Rattle.rows.specs.Layout.{optionsIn, headerIn, rowsAt, cell, Laid, viewIn}
 use Rattle.rows.proofs.Laws.{rows-at}
 use Rattle.sig_leaves.specs.Leaves.{blobBytes, BlobInside, BlobIs}
@@ -36,33 +37,33 @@ module _ {t l : List ℕ} (laid : Laid t l) (strings heap : List ℕ) (r : ℕ) 
   unfolding specBlob
   spec-null e = record { is = rw (eq-eqb r 0 e); inside = tt }
 
-  kept : rowsAt l 14 ≡ keptRows (optionsIn l) (headerIn t l) (length t) typeSpec
-  kept = rows-at laid 14 (omega arith)
+  kept : rowsAt l columns.specSignature ≡ keptRows (optionsIn l) (headerIn t l) (length t) typeSpec
+  kept = rows-at laid columns.specSignature (omega arith)
 
   module _ (n : r ≡ 0 → ⊥) where
-    pub spec-past : rowsAt l 14 < r → BlobIs heap (specBlob (viewIn t l strings heap) r) Missing
+    pub spec-past : rowsAt l columns.specSignature < r → BlobIs heap (specBlob (viewIn t l strings heap) r) Missing
     unfolding specBlob viewOf otherRow
     spec-past h = record {
       is = rw (ne-eqb r 0 n, le-ltb (r - 1) (keptRows (optionsIn l) (headerIn t l) (length t) typeSpec) (omega (arith, kept)));
       inside = tt;
     }
 
-    module _ (h : r ≤ rowsAt l 14) where
-      spec-is : specBlob (viewIn t l strings heap) r ≡ blob heap (cell t l 14 (r - 1))
+    module _ (h : r ≤ rowsAt l columns.specSignature) where
+      spec-is : specBlob (viewIn t l strings heap) r ≡ blob heap (cell t l columns.specSignature (r - 1))
       unfolding specBlob viewOf otherRow
       spec-is = rw (ne-eqb r 0 n, lt-ltb (r - 1) (keptRows (optionsIn l) (headerIn t l) (length t) typeSpec) (omega (arith, kept)))
 
-      module _ {p : Part} {i : ℕ} (told : i ≡ cell t l 14 (r - 1)) (looked : p ≡ blobAt heap i) where
-        looked-at : p ≡ blobAt heap (cell t l 14 (r - 1))
+      module _ {p : Part} {i : ℕ} (told : i ≡ cell t l columns.specSignature (r - 1)) (looked : p ≡ blobAt heap i) where
+        looked-at : p ≡ blobAt heap (cell t l columns.specSignature (r - 1))
         looked-at = looked ∙ ap (blobAt heap) told
 
         pub spec-found : {start len : ℕ} → p ≡ Found start len → BlobIs heap (specBlob (viewIn t l strings heap) r) (At start len)
         spec-found f =
             let at = sym f ∙ looked-at in
-            record { is = sym (spec-is ∙ blob-some heap (cell t l 14 (r - 1)) at); inside = blob-within heap (cell t l 14 (r - 1)) at }
+            record { is = sym (spec-is ∙ blob-some heap (cell t l columns.specSignature (r - 1)) at); inside = blob-within heap (cell t l columns.specSignature (r - 1)) at }
 
         pub spec-absent : {why : Absence} → p ≡ Absent why → BlobIs heap (specBlob (viewIn t l strings heap) r) Missing
-        spec-absent f = record { is = sym (spec-is ∙ blob-absent heap (cell t l 14 (r - 1)) (sym f ∙ looked-at)); inside = tt }
+        spec-absent f = record { is = sym (spec-is ∙ blob-absent heap (cell t l columns.specSignature (r - 1)) (sym f ∙ looked-at)); inside = tt }
 
 -- An answer that was matched.
 module _ {s : List ℕ} {d : Option (List ℕ)} {r : Blob} (h : BlobIs s d r) where

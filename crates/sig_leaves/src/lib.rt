@@ -16,6 +16,7 @@ ghost use Rattle.buffers.specs.Writes.{Said, placeSays};
 ghost use Rattle.heaps.specs.Lookups.{string};
 ghost use Rattle.record.specs.Types.{simple, methodStart, generic};
 ghost use Rattle.record.specs.Names.{nameAt, specBlob};
+ghost use Rattle.rows.specs.Columns as columns;
 ghost use Rattle.rows.specs.Layout.{Laid, rowsAt, cell, viewIn};
 ghost use Rattle.rendering.specs.Rendered.{Rendered};
 ghost use Rattle.sig_leaves.specs.Leaves.{bounded, upTo, argumentCount, genericsOf, BlobIs};
@@ -116,7 +117,7 @@ fn push_string(
     i: usize,
 ) -> Place
     requires { ⌜ Laid (now tables) (now layout) ⌝ }
-    requires { ⌜ (column < 19) × (i < rowsAt (now layout) column) ⌝ }
+    requires { ⌜ (column < columns.count) × (i < rowsAt (now layout) column) ⌝ }
     ensures { λ r. ⌜ Said (now (buf .entry)) at (now (buf .exit)) (string (now (strings .entry)) (cell (now (tables .entry)) (now (layout .entry)) column i)) (placeSays r) ⌝ }
 {
     match rows::read_string(tables, strings, layout, column, i) {

@@ -3,6 +3,7 @@ use Prim.Native.Nat.{_+_, _-_, _≤_}
 use native.Mathlib.Omega.{arith}
 use borrow.Author.Needs.{needs}
 use lib.ListN.{length}
+use Rattle.rows.specs.Columns as columns
 use Rattle.rows.specs.Layout.{rowsAt}
 use Rattle.rows.proofs.Laws.{rows-narrow}
 use Rattle.bases.specs.Candidates.{candidate, firstNames}
@@ -19,7 +20,7 @@ use Rattle.keys.proofs.key_rows.Reads as key-rows-reads
 abbrev Inv-loop : tie.InvT-loop
 Inv-loop tables strings blob layout row first n i₀ seen₀ i seen =
     (i ≤ n)
-    × (n ≤ rowsAt layout 12 + 1)
+    × (n ≤ rowsAt layout columns.implClass + 1)
     × (first + 1 ≤ n)
     × (seen ≤ i)
     × (n ≤ 4_294_967_296)
@@ -41,7 +42,7 @@ add-n : tie.Need-add-n Inv-loop μ-loop
 add-n c =
     let keyed = c .before in
     let start = keyed .before .before .before .before .before in
-    record { fits = omega (arith, keyed .key-rows .ensures .within, rows-narrow (start .pre .0) 12 (omega arith)) }
+    record { fits = omega (arith, keyed .key-rows .ensures .within, rows-narrow (start .pre .0) columns.implClass (omega arith)) }
 
 -- src/lib.rt:127:5
 loop-holds : tie.Need-loop-holds Inv-loop μ-loop
@@ -49,7 +50,7 @@ loop-holds c =
     let keyed = c .before in
     let start = keyed .before .before .before .before .before in
     let o = keyed .key-rows .ensures in
-    (omega arith, omega (arith, o .within), omega (arith, o .order), omega arith, omega (arith, o .within, rows-narrow (start .pre .0) 12 (omega arith)), none-named _)
+    (omega arith, omega (arith, o .within), omega (arith, o .order), omega arith, omega (arith, o .within, rows-narrow (start .pre .0) columns.implClass (omega arith)), none-named _)
 
 -- src/lib.rt:128:13
 has-name-requires : tie.Need-has-name-requires Inv-loop μ-loop

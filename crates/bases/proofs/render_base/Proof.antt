@@ -4,6 +4,7 @@ use native.Mathlib.Omega.{arith}
 use borrow.Author.Needs.{needs}
 use lib.ListN.{length}
 use Rattle.buffers.specs.Writes.{placeSays}
+use Rattle.rows.specs.Columns as columns
 use Rattle.rows.specs.Layout.{rowsAt}
 use Rattle.rows.proofs.Laws.{rows-narrow}
 use Rattle.bases.specs.Candidates.{candidate, firstNames}
@@ -20,7 +21,7 @@ use Rattle.keys.proofs.key_rows.Reads as key-rows-reads
 abbrev Inv-loop : tie.InvT-loop
 Inv-loop buf₀ tables strings blob layout row nth first n i₀ seen₀ buf i seen =
     (i ≤ n)
-    × (n ≤ rowsAt layout 12 + 1)
+    × (n ≤ rowsAt layout columns.implClass + 1)
     × (first + 1 ≤ n)
     × (seen ≤ i)
     × (seen ≤ nth)
@@ -44,7 +45,7 @@ add-n : tie.Need-add-n Inv-loop μ-loop
 add-n c =
     let keyed = c .before in
     let start = keyed .before .before .before .before .before .before in
-    record { fits = omega (arith, keyed .key-rows .ensures .within, rows-narrow (start .pre .0) 12 (omega arith)) }
+    record { fits = omega (arith, keyed .key-rows .ensures .within, rows-narrow (start .pre .0) columns.implClass (omega arith)) }
 
 -- src/lib.rt:156:5
 loop-holds : tie.Need-loop-holds Inv-loop μ-loop
@@ -52,7 +53,7 @@ loop-holds c =
     let keyed = c .before in
     let start = keyed .before .before .before .before .before .before in
     let o = keyed .key-rows .ensures in
-    (omega arith, omega (arith, o .within), omega (arith, o .order), omega arith, omega arith, omega (arith, o .within, rows-narrow (start .pre .0) 12 (omega arith)), refl, none-named _)
+    (omega arith, omega (arith, o .within), omega (arith, o .order), omega arith, omega arith, omega (arith, o .within, rows-narrow (start .pre .0) columns.implClass (omega arith)), refl, none-named _)
 
 -- src/lib.rt:158:9
 next-candidate-requires : tie.Need-next-candidate-requires Inv-loop μ-loop

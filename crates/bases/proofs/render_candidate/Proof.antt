@@ -10,6 +10,7 @@ use Rattle.bases.proofs.render_candidate.Lts as lts
 use Rattle.bases.proofs.render_type.Reads as render-type-reads
 use Rattle.numbers.proofs.wide.Reads as wide-reads
 use Rattle.rows.proofs.read_column.Reads as read-column-reads
+use Rattle.rows.specs.Columns as columns
 
 -- src/lib.rt:77:21
 wide-requires : tie.Need-wide-requires
@@ -23,7 +24,7 @@ sub-place c = search needs
 read-column-requires : tie.Need-read-column-requires
 read-column-requires c κs =
     let s = c .before .before .before .before .before .before in
-    (s .pre .0, (omega arith, omega (arith, c .wide .ensures .0, s .pre .1 .0, s .pre .1 .1, same-rows (s .pre .0) 3 5 (omega arith) (omega arith) refl)))
+    (s .pre .0, (omega arith, omega (arith, c .wide .ensures .0, s .pre .1 .0, s .pre .1 .1, same-rows (s .pre .0) columns.typeName columns.extends (omega arith) (omega arith) refl)))
 
 -- src/lib.rt:79:9
 render-type-requires : tie.Need-render-type-requires
@@ -61,7 +62,7 @@ sub-read-column-2 c = search needs
 read-column-requires-3 : tie.Need-read-column-requires-3
 read-column-requires-3 c κs =
     let s = c .before .before .before .before .before .before .before .before in
-    (s .pre .0, (omega arith, omega (arith, same-rows (s .pre .0) 12 13 (omega arith) (omega arith) refl)))
+    (s .pre .0, (omega arith, omega (arith, same-rows (s .pre .0) columns.implClass columns.implInterface (omega arith) (omega arith) refl)))
 
 -- src/lib.rt:85:5
 render-type-requires-2 : tie.Need-render-type-requires-2

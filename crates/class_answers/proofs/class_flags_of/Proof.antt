@@ -10,10 +10,11 @@ use Rattle.class_answers.proofs.class_flags_of.Reads as reads
 use Rattle.class_answers.proofs.class_flags_of.Lts as lts
 use Rattle.listed.proofs.class_row.Reads as class-row-reads
 use Rattle.rows.proofs.read_column.Reads as read-column-reads
+use Rattle.rows.specs.Columns as columns
 
 -- src/lib.rt:20:11
 class-row-requires : tie.Need-class-row-requires
-class-row-requires c κs = rows-narrow (c .before .pre) 3 (omega arith)
+class-row-requires c κs = rows-narrow (c .before .pre) columns.typeName (omega arith)
 
 -- src/lib.rt:21:23
 enum-known-row : tie.Need-enum-known-row
@@ -32,7 +33,7 @@ read-column-requires : tie.Need-read-column-requires
 read-column-requires c κs =
     let laid = c .before .before .before .before .before .before .pre in
     let at = class-found (c .before .before .before .before .class-row .ensures) (c .before .before .row .given .1) in
-    (laid, (omega arith, omega (arith, at .0, at .1, same-rows laid 3 2 (omega arith) (omega arith) refl)))
+    (laid, (omega arith, omega (arith, at .0, at .1, same-rows laid columns.typeName columns.typeFlags (omega arith) (omega arith) refl)))
 
 -- src/lib.rt:24:23
 cast-t9 : tie.Need-cast-t9

@@ -9,10 +9,11 @@ use Rattle.class_answers.proofs.count_bases_of.Reads as reads
 use Rattle.class_answers.proofs.count_bases_of.Lts as lts
 use Rattle.bases.proofs.count_bases.Reads as count-bases-reads
 use Rattle.listed.proofs.class_row.Reads as class-row-reads
+use Rattle.rows.specs.Columns as columns
 
 -- src/lib.rt:97:11
 class-row-requires : tie.Need-class-row-requires
-class-row-requires c κs = rows-narrow (c .before .before .before .pre) 3 (omega arith)
+class-row-requires c κs = rows-narrow (c .before .before .before .pre) columns.typeName (omega arith)
 
 -- src/lib.rt:98:23
 enum-known-row : tie.Need-enum-known-row

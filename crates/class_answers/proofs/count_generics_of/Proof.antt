@@ -9,10 +9,11 @@ use Rattle.class_answers.proofs.count_generics_of.Reads as reads
 use Rattle.class_answers.proofs.count_generics_of.Lts as lts
 use Rattle.listed.proofs.class_row.Reads as class-row-reads
 use Rattle.listed.proofs.count_generics.Reads as count-generics-reads
+use Rattle.rows.specs.Columns as columns
 
 -- src/lib.rt:57:11
 class-row-requires : tie.Need-class-row-requires
-class-row-requires c κs = rows-narrow (c .before .pre) 3 (omega arith)
+class-row-requires c κs = rows-narrow (c .before .pre) columns.typeName (omega arith)
 
 -- src/lib.rt:58:23
 enum-known-row : tie.Need-enum-known-row

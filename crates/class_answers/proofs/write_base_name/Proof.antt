@@ -13,10 +13,11 @@ use Rattle.bases.proofs.render_base.Reads as render-base-reads
 use Rattle.buffers.proofs.finish.Reads as finish-reads
 use Rattle.buffers.proofs.refuse.Reads as refuse-reads
 use Rattle.listed.proofs.class_row.Reads as class-row-reads
+use Rattle.rows.specs.Columns as columns
 
 -- src/lib.rt:116:11
 class-row-requires : tie.Need-class-row-requires
-class-row-requires c κs = rows-narrow (c .before .before .before .before .pre) 3 (omega arith)
+class-row-requires c κs = rows-narrow (c .before .before .before .before .pre) columns.typeName (omega arith)
 
 -- src/lib.rt:117:23
 enum-known-row : tie.Need-enum-known-row

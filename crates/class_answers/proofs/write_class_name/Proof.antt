@@ -14,10 +14,11 @@ use Rattle.buffers.proofs.finish.Reads as finish-reads
 use Rattle.buffers.proofs.refuse.Reads as refuse-reads
 use Rattle.listed.proofs.class_row.Reads as class-row-reads
 use Rattle.names.proofs.push_class_name.Reads as push-class-name-reads
+use Rattle.rows.specs.Columns as columns
 
 -- src/lib.rt:41:11
 class-row-requires : tie.Need-class-row-requires
-class-row-requires c κs = rows-narrow (c .before .before .before .pre) 3 (omega arith)
+class-row-requires c κs = rows-narrow (c .before .before .before .pre) columns.typeName (omega arith)
 
 -- src/lib.rt:42:23
 enum-known-row : tie.Need-enum-known-row

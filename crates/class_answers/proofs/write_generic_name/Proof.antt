@@ -10,10 +10,11 @@ use Rattle.class_answers.proofs.write_generic_name.Lts as lts
 use Rattle.buffers.proofs.refuse.Reads as refuse-reads
 use Rattle.listed.proofs.class_row.Reads as class-row-reads
 use Rattle.listed.proofs.write_generic.Reads as write-generic-reads
+use Rattle.rows.specs.Columns as columns
 
 -- src/lib.rt:77:11
 class-row-requires : tie.Need-class-row-requires
-class-row-requires c κs = rows-narrow (c .before .before .before .pre) 3 (omega arith)
+class-row-requires c κs = rows-narrow (c .before .before .before .pre) columns.typeName (omega arith)
 
 -- src/lib.rt:78:23
 enum-known-row : tie.Need-enum-known-row

@@ -2,6 +2,7 @@ use mathlib.Core.Path.{refl}
 use mathlib.Core.List.{[]}
 use native.Mathlib.Omega.{arith}
 use borrow.Author.Needs.{needs}
+use Rattle.rows.specs.Columns as columns
 use Rattle.rows.specs.Layout.{viewIn}
 use Rattle.rows.proofs.Laws.{rows-narrow, same-rows}
 use Rattle.listed.proofs.Laws.{class-found, class-missed, listed, unlisted, range-of, methods-narrow, method-there, method-past, method-none}
@@ -15,7 +16,7 @@ use Rattle.methods.proofs.method_range.Reads as method-range-reads
 
 -- src/lib.rt:64:11
 class-row-requires : tie.Need-class-row-requires
-class-row-requires c κs = rows-narrow (c .before .pre) 3 (omega arith)
+class-row-requires c κs = rows-narrow (c .before .pre) columns.typeName (omega arith)
 
 -- src/lib.rt:65:23
 enum-known-row : tie.Need-enum-known-row
@@ -26,7 +27,7 @@ method-range-requires : tie.Need-method-range-requires
 method-range-requires c κs =
     let s = c .before .before .before .before .before in
     let at = class-found (c .before .before .before .class-row .ensures) (c .before .row .given .1) in
-    (s .pre, (omega (arith, at .0), omega (arith, at .0, at .1, same-rows (s .pre) 3 6 (omega arith) (omega arith) refl)))
+    (s .pre, (omega (arith, at .0), omega (arith, at .0, at .1, same-rows (s .pre) columns.typeName columns.methodList (omega arith) (omega arith) refl)))
 
 -- src/lib.rt:67:39
 wide-requires : tie.Need-wide-requires

@@ -11,10 +11,11 @@ use Rattle.method_answers.proofs.count_methods_of.Reads as reads
 use Rattle.method_answers.proofs.count_methods_of.Lts as lts
 use Rattle.listed.proofs.class_row.Reads as class-row-reads
 use Rattle.methods.proofs.method_range.Reads as method-range-reads
+use Rattle.rows.specs.Columns as columns
 
 -- src/lib.rt:20:11
 class-row-requires : tie.Need-class-row-requires
-class-row-requires c κs = rows-narrow (c .before .pre) 3 (omega arith)
+class-row-requires c κs = rows-narrow (c .before .pre) columns.typeName (omega arith)
 
 -- src/lib.rt:21:23
 enum-known-row : tie.Need-enum-known-row
@@ -25,7 +26,7 @@ method-range-requires : tie.Need-method-range-requires
 method-range-requires c κs =
     let laid = c .before .before .before .before .before .pre in
     let at = class-found (c .before .before .before .class-row .ensures) (c .before .row .given .1) in
-    (laid, (omega (arith, at .0), omega (arith, at .0, at .1, same-rows laid 3 6 (omega arith) (omega arith) refl)))
+    (laid, (omega (arith, at .0), omega (arith, at .0, at .1, same-rows laid columns.typeName columns.methodList (omega arith) (omega arith) refl)))
 
 -- src/lib.rt:23:23
 sub-t8 : tie.Need-sub-t8

@@ -10,6 +10,7 @@ use Rattle.method_answers.proofs.count_params_of.Reads as reads
 use Rattle.method_answers.proofs.count_params_of.Lts as lts
 use Rattle.listed.proofs.method_row.Reads as method-row-reads
 use Rattle.method_signatures.proofs.count_params.Reads as count-params-reads
+use Rattle.rows.specs.Columns as columns
 
 -- src/lib.rt:134:11
 method-row-requires : tie.Need-method-row-requires
@@ -26,7 +27,7 @@ count-params-requires c κs =
     let at-method-row = at-i .before .before in
     let start = at-method-row .before .before .before .before in
     let at = method-found (at-method-row .method-row .ensures [] []) (at-i .i .given .1) in
-    (start .pre, method-inside (start .pre) [] [] _ _ at 9 (omega arith) refl)
+    (start .pre, method-inside (start .pre) [] [] _ _ at columns.methodSignature (omega arith) refl)
 
 -- src/lib.rt:142:39
 enum-told : tie.Need-enum-told

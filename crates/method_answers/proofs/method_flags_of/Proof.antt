@@ -10,6 +10,7 @@ use Rattle.method_answers.proofs.method_flags_of.Reads as reads
 use Rattle.method_answers.proofs.method_flags_of.Lts as lts
 use Rattle.listed.proofs.method_row.Reads as method-row-reads
 use Rattle.rows.proofs.read_column.Reads as read-column-reads
+use Rattle.rows.specs.Columns as columns
 
 -- src/lib.rt:34:11
 method-row-requires : tie.Need-method-row-requires
@@ -24,7 +25,7 @@ read-column-requires : tie.Need-read-column-requires
 read-column-requires c κs =
     let laid = c .before .before .before .before .before .pre in
     let at = method-found (c .before .before .before .method-row .ensures [] []) (c .before .i .given .1) in
-    (laid, (omega arith, omega (arith, method-inside laid [] [] _ _ at 7 (omega arith) refl)))
+    (laid, (omega arith, omega (arith, method-inside laid [] [] _ _ at columns.methodFlags (omega arith) refl)))
 
 -- src/lib.rt:37:23
 cast-t9 : tie.Need-cast-t9

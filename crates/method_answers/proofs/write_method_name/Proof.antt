@@ -11,6 +11,7 @@ use Rattle.method_answers.proofs.write_method_name.Lts as lts
 use Rattle.buffers.proofs.refuse.Reads as refuse-reads
 use Rattle.listed.proofs.method_row.Reads as method-row-reads
 use Rattle.rows.proofs.write_string.Reads as write-string-reads
+use Rattle.rows.specs.Columns as columns
 
 -- src/lib.rt:55:11
 method-row-requires : tie.Need-method-row-requires
@@ -25,7 +26,7 @@ write-string-requires : tie.Need-write-string-requires
 write-string-requires c κs =
     let laid = c .before .before .before .before .before .before .before .before .pre in
     let at = method-found (c .before .before .before .before .method-row .ensures [] []) (c .before .before .i .given .1) in
-    (laid, (omega arith, method-inside laid [] [] _ _ at 8 (omega arith) refl))
+    (laid, (omega arith, method-inside laid [] [] _ _ at columns.methodName (omega arith) refl))
 
 -- src/lib.rt:59:45
 enum-told : tie.Need-enum-told

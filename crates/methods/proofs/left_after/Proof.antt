@@ -11,6 +11,7 @@ use Rattle.methods.proofs.take_from.Reads as take-from-reads
 use Rattle.rows.proofs.count_rows.Reads as count-rows-reads
 use Rattle.rows.proofs.is_marked.Reads as is-marked-reads
 use Rattle.rows.proofs.read_column.Reads as read-column-reads
+use Rattle.rows.specs.Columns as columns
 
 -- src/lib.rt:59:8
 is-marked-requires : tie.Need-is-marked-requires
@@ -40,7 +41,7 @@ returns c strings blob =
     let inside = read .before in
     let marked = inside .before .before in
     let start = marked .before .before .before in
-    next-decides (start .pre .0) strings blob (marked-ascends (start .pre .0) 6 (omega arith) (marked .before .is-marked .ensures) (marked .if1 .taken)) (start .args .row)
+    next-decides (start .pre .0) strings blob (marked-ascends (start .pre .0) columns.methodList (omega arith) (marked .before .is-marked .ensures) (marked .if1 .taken)) (start .args .row)
     (start .pre .1 .0) (omega (arith, inside .if2 .taken, inside .before .count-rows .ensures)) (read .read-column .ensures) (counted .before .if3 .taken) (counted .count-rows2 .ensures) (c .take-from .ensures)
 
 -- src/lib.rt:67:5

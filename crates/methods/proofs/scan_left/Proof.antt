@@ -4,6 +4,7 @@ use Prim.Native.Nat.{ℕ, _-_, _≤_}
 use native.Mathlib.Omega.{arith}
 use borrow.Author.Needs.{needs}
 use Rattle.record.specs.Methods.{leftAfter}
+use Rattle.rows.specs.Columns as columns
 use Rattle.rows.specs.Layout.{rowsAt, viewIn}
 use Rattle.methods.proofs.Laws.{all-left, class-takes}
 use Rattle.methods.proofs.scan_left.Statement.{statement}
@@ -16,7 +17,7 @@ use Rattle.rows.proofs.read_column.Reads as read-column-reads
 
 abbrev Inv-loop : tie.InvT-loop
 Inv-loop tables layout row left₀ r₀ left r =
-    (row ≤ r) × (r ≤ rowsAt layout 6) × ((strings blob : List ℕ) → left ≡ leftAfter (viewIn tables layout strings blob) (r - 1))
+    (row ≤ r) × (r ≤ rowsAt layout columns.methodList) × ((strings blob : List ℕ) → left ≡ leftAfter (viewIn tables layout strings blob) (r - 1))
 
 abbrev μ-loop : tie.MeasureT-loop
 μ-loop tables layout row left₀ r₀ left r = r

@@ -9,6 +9,7 @@ use Rattle.names.proofs.class_around.Tie as tie
 use Rattle.names.proofs.class_around.Reads as reads
 use Rattle.names.proofs.class_around.Lts as lts
 use Rattle.rows.proofs.read_column.Reads as read-column-reads
+use Rattle.rows.specs.Columns as columns
 
 -- src/lib.rt:89:9
 read-column-requires : tie.Need-read-column-requires
@@ -26,7 +27,7 @@ returns-2 c = around-other _ _ _ _ (λ e. c .if2 .taken (c .before .before .befo
 read-column-requires-2 : tie.Need-read-column-requires-2
 read-column-requires-2 c κs =
     let s = c .before .before .before .before .before in
-    (s .pre .0, (omega arith, omega (arith, same-rows (s .pre .0) 15 16 (omega arith) (omega arith) refl)))
+    (s .pre .0, (omega arith, omega (arith, same-rows (s .pre .0) columns.nested columns.enclosing (omega arith) (omega arith) refl)))
 
 -- src/lib.rt:98:9
 returns-3 : tie.Need-returns-3

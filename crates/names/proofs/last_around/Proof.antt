@@ -1,6 +1,7 @@
 use Prim.Native.Nat.{_≤_}
 use native.Mathlib.Omega.{arith}
 use borrow.Author.Needs.{needs}
+use Rattle.rows.specs.Columns as columns
 use Rattle.rows.specs.Layout.{rowsAt}
 use Rattle.names.proofs.Leaves.{Looking, look-start, look-on, look-found, look-end}
 use Rattle.names.proofs.last_around.Statement.{statement}
@@ -12,7 +13,7 @@ use Rattle.names.proofs.class_around.Reads as class-around-reads
 use Rattle.names.proofs.least.Reads as least-reads
 
 abbrev Inv-loop : tie.InvT-loop
-Inv-loop tables layout end row first i₀ i = (end ≤ rowsAt layout 15) × Looking tables layout end (row .0) i
+Inv-loop tables layout end row first i₀ i = (end ≤ rowsAt layout columns.nested) × Looking tables layout end (row .0) i
 
 abbrev μ-loop : tie.MeasureT-loop
 μ-loop tables layout end row first i₀ i = i

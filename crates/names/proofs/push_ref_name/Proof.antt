@@ -17,6 +17,7 @@ use Rattle.names.proofs.push_ref_namespace.Reads as push-ref-namespace-
 use Rattle.numbers.proofs.cut.Reads as cut-reads
 use Rattle.rows.proofs.count_rows.Reads as count-rows-reads
 use Rattle.rows.proofs.read_string.Reads as read-string-reads
+use Rattle.rows.specs.Columns as columns
 
 -- src/lib.rt:273:9
 returns : tie.Need-returns
@@ -55,7 +56,7 @@ sub-push-ref-namespace c = search needs
 push-ref-namespace-requires : tie.Need-push-ref-namespace-requires
 push-ref-namespace-requires c κs =
     let s = c .before .before .before .before .before .before .before .before .before .before .before .before in
-    (s .pre, omega (arith, c .before .before .before .before .before .before .before .count-rows .ensures, same-rows (s .pre) 0 1 (omega arith) (omega arith) refl))
+    (s .pre, omega (arith, c .before .before .before .before .before .before .before .count-rows .ensures, same-rows (s .pre) columns.refName columns.refNamespace (omega arith) (omega arith) refl))
 
 -- src/lib.rt:282:17
 cut-requires : tie.Need-cut-requires

@@ -1,0 +1,87 @@
+-- Where the numbers of a layout (Layout.antt) stand, under the names and in the order of src/columns.rt: the columns that are read, in
+-- the order of `readColumns`, and what is behind their numbers.
+use Prim.Native.Nat.{ℕ, _+_, _*_}
+use Rattle.layouts.specs.Read.{readCount}
+
+-- TypeRef, II.22.38
+abbrev pub refName : ℕ
+refName = 0
+
+abbrev pub refNamespace : ℕ
+refNamespace = 1
+
+-- TypeDef, II.22.37
+abbrev pub typeFlags : ℕ
+typeFlags = 2
+
+abbrev pub typeName : ℕ
+typeName = 3
+
+abbrev pub typeNamespace : ℕ
+typeNamespace = 4
+
+abbrev pub extends : ℕ
+extends = 5
+
+abbrev pub methodList : ℕ
+methodList = 6
+
+-- MethodDef, II.22.26
+abbrev pub methodFlags : ℕ
+methodFlags = 7
+
+abbrev pub methodName : ℕ
+methodName = 8
+
+abbrev pub methodSignature : ℕ
+methodSignature = 9
+
+abbrev pub paramList : ℕ
+paramList = 10
+
+-- Param, II.22.33
+abbrev pub paramName : ℕ
+paramName = 11
+
+-- InterfaceImpl, II.22.23
+abbrev pub implClass : ℕ
+implClass = 12
+
+abbrev pub implInterface : ℕ
+implInterface = 13
+
+-- TypeSpec, II.22.39
+abbrev pub specSignature : ℕ
+specSignature = 14
+
+-- NestedClass, II.22.32
+abbrev pub nested : ℕ
+nested = 15
+
+abbrev pub enclosing : ℕ
+enclosing = 16
+
+-- GenericParam, II.22.20
+abbrev pub owner : ℕ
+owner = 17
+
+abbrev pub genericName : ℕ
+genericName = 18
+
+-- How many columns there are. The layout has four numbers for each.
+abbrev pub count : ℕ
+count = readCount
+
+-- Behind those stand the options that the stream was opened with, the limit of rows and whether DeclSecurity counts,
+abbrev pub limit : ℕ
+limit = 4 * count
+
+abbrev pub security : ℕ
+security = limit + 1
+
+-- and a mark for each column.
+abbrev pub marks : ℕ
+marks = security + 1
+
+abbrev pub size : ℕ
+size = marks + count
