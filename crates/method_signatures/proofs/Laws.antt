@@ -34,6 +34,7 @@ use Rattle.record.specs.Types.{Env, methodStart, type}
 use Rattle.record.specs.Names.{rowsIn, sizesOf, numberIn, classes, classRow, env, levels, classGenerics, methodGenerics}
 use Rattle.record.specs.Methods.{Signature, Pass, tries, signature, readBy, methodLists, handle, pass, signatureOf}
 use Rattle.record.proofs.Read.{method-row}
+use Rattle.rows.specs.Columns as columns
 use Rattle.rows.specs.Layout.{Laid, Ascends, rowsAt, cell, optionsIn, viewIn}
 use Rattle.rows.proofs.Laws.{rows-at}
 use Rattle.rows.proofs.Classes.{classes-are, methods-are, list-at}
@@ -102,32 +103,32 @@ module _ (e : Env) (s : List ℕ) where
   unfolding signature
   signature-cut a = rw (← a)
 
-module _ {t l : List ℕ} (laid : Laid t l) (strings heap : List ℕ) (m c : ℕ) (h : m < rowsAt l 9) where
+module _ {t l : List ℕ} (laid : Laid t l) (strings heap : List ℕ) (m c : ℕ) (h : m < rowsAt l columns.methodSignature) where
   abbrev v : View
   v = viewIn t l strings heap
 
   abbrev e : Env
   e = env v (classGenerics v c) (methodGenerics v m)
 
-  by-class : readBy v m c ≡ andThen (blob heap (cell t l 9 m)) (λ bytes. signature e bytes 0 .got)
+  by-class : readBy v m c ≡ andThen (blob heap (cell t l columns.methodSignature m)) (λ bytes. signature e bytes 0 .got)
   unfolding readBy viewOf
   by-class =
       ap (λ (r : Option (List ℕ)). andThen r (λ row. andThen (blob heap (methodSignature (sizesOf v) row)) (λ bytes. signature e bytes 0 .got)))
-      (method-row (optionsIn l) t strings heap m (omega (arith, rows-at laid 9 (omega arith))))
+      (method-row (optionsIn l) t strings heap m (omega (arith, rows-at laid columns.methodSignature (omega arith))))
 
-  module _ {p : Part} {i : ℕ} (told : i ≡ cell t l 9 m) (looked : p ≡ blobAt heap i) where
-    looked-at : p ≡ blobAt heap (cell t l 9 m)
+  module _ {p : Part} {i : ℕ} (told : i ≡ cell t l columns.methodSignature m) (looked : p ≡ blobAt heap i) where
+    looked-at : p ≡ blobAt heap (cell t l columns.methodSignature m)
     looked-at = looked ∙ ap (blobAt heap) told
 
     pub no-blob : (b : List ℕ) {why : Absence} → p ≡ Absent why → ReadingIs v heap m (readBy v m c) b b Missing
-    no-blob b f = missing (by-class ∙ ap (λ (o : Option (List ℕ)). andThen o (λ bytes. signature e bytes 0 .got)) (blob-absent heap (cell t l 9 m) (sym f ∙ looked-at))) refl
+    no-blob b f = missing (by-class ∙ ap (λ (o : Option (List ℕ)). andThen o (λ bytes. signature e bytes 0 .got)) (blob-absent heap (cell t l columns.methodSignature m) (sym f ∙ looked-at))) refl
 
     module _ {start len : ℕ} (f : p ≡ Found start len) where
       pub inside : start + len ≤ length heap
-      inside = blob-within heap (cell t l 9 m) (sym f ∙ looked-at)
+      inside = blob-within heap (cell t l columns.methodSignature m) (sym f ∙ looked-at)
 
       of-part : readBy v m c ≡ signature e (part heap start len) 0 .got
-      of-part = by-class ∙ ap (λ (o : Option (List ℕ)). andThen o (λ bytes. signature e bytes 0 .got)) (blob-some heap (cell t l 9 m) (sym f ∙ looked-at))
+      of-part = by-class ∙ ap (λ (o : Option (List ℕ)). andThen o (λ bytes. signature e bytes 0 .got)) (blob-some heap (cell t l columns.methodSignature m) (sym f ∙ looked-at))
 
       module _ {sig : List ℕ} (is : sig ≡ part heap start len) (u : Uint) (counted : uintSays u ≡ methodStart sig 0) where
         start-at : uintSays u ≡ methodStart (part heap start len) 0
@@ -324,18 +325,18 @@ module _ (v : View) (m : ℕ) where
 -- The columns that the scan reads.
 module _ {t l : List ℕ} (laid : Laid t l) (strings heap : List ℕ) where
   -- A turn of the scan, at a row of TypeDef from 0: the class there has the number before it.
-  module _ (m : ℕ) {row : ℕ} (z : 0 < row) (h : row < rowsAt l 6) {col : ℕ} (read : col ≡ cell t l 6 row) (s : Option Signature) (c first : ℕ)
+  module _ (m : ℕ) {row : ℕ} (z : 0 < row) (h : row < rowsAt l columns.methodList) {col : ℕ} (read : col ≡ cell t l columns.methodList row) (s : Option Signature) (c first : ℕ)
       (inv : Standing (viewIn t l strings heap) m s (row - 1) c first) where
     abbrev w : View
     w = viewIn t l strings heap
 
     is-class : row - 1 < classes w
-    is-class = omega (arith, classes-are laid strings heap 6 (omega arith) refl)
+    is-class = omega (arith, classes-are laid strings heap columns.methodList (omega arith) refl)
 
     its-list : col ≡ numberIn w methodList (classRow w (row - 1))
     its-list =
         let one : row ≡ row - 1 + 1 = omega arith in
-        read ∙ ap (cell t l 6) one ∙ sym (list-at laid strings heap (row - 1) is-class)
+        read ∙ ap (cell t l columns.methodList) one ∙ sym (list-at laid strings heap (row - 1) is-class)
 
     next-row : row - 1 + 1 ≡ row + 1 - 1
     next-row = omega arith
@@ -352,12 +353,12 @@ module _ {t l : List ℕ} (laid : Laid t l) (strings heap : List ℕ) where
           rw is (subst (λ (i : ℕ). Standing w m s i (row - 1) (col - 1)) next-row (stand-next w m (row - 1) is-class its-list s c first inv n has e))
 
   -- Where MethodList ascends: of the rows that begin at or below m the last is that of a class before which none has a say.
-  pub from-begun : Ascends (cell t l 6) (rowsAt l 6) → (m : ℕ) {n : ℕ} → SplitAt (cell t l 6) (m + 2) (rowsAt l 6) n → (c : ℕ) → c + 2 ≤ n
+  pub from-begun : Ascends (cell t l columns.methodList) (rowsAt l columns.methodList) → (m : ℕ) {n : ℕ} → SplitAt (cell t l columns.methodList) (m + 2) (rowsAt l columns.methodList) n → (c : ℕ) → c + 2 ≤ n
       → ReadFrom (viewIn t l strings heap) m c
   from-begun up m s zero h = from-all (viewIn t l strings heap) m
   from-begun up m s (suc c) h =
       let one : suc c ≡ c + 1 = omega arith in
-      let all = classes-are laid strings heap 6 (omega arith) refl in
+      let all = classes-are laid strings heap columns.methodList (omega arith) refl in
       let here = list-at laid strings heap c (omega (arith, s .within)) in
       let next = list-at laid strings heap (c + 1) (omega (arith, s .within)) in
       let from = from-next (viewIn t l strings heap) m c (omega (arith, s .within)) (sym here) (sym next) (up (c + 1) (omega (arith, s .within)))
@@ -370,22 +371,22 @@ module _ {t l : List ℕ} (laid : Laid t l) (strings heap : List ℕ) where
     abbrev u : View
     u = viewIn t l strings heap
 
-    pub read-last : m < rowsAt l 9 → first ≤ m → from + 1 < row → row ≡ rowsAt l 6 → {next : ClassNumber} → next ≡ classAt row
+    pub read-last : m < rowsAt l columns.methodSignature → first ≤ m → from + 1 < row → row ≡ rowsAt l columns.methodList → {next : ClassNumber} → next ≡ classAt row
         → ReaderIs u m from (By class next)
     read-last h lo f e is =
-        let all = classes-are laid strings heap 6 (omega arith) refl in
-        rw is (omega arith, omega arith, end-read u m (row - 1) (omega arith) _ (class .0) first inv lo (omega (arith, methods-are laid strings heap 9 (omega arith) refl)))
+        let all = classes-are laid strings heap columns.methodList (omega arith) refl in
+        rw is (omega arith, omega arith, end-read u m (row - 1) (omega arith) _ (class .0) first inv lo (omega (arith, methods-are laid strings heap columns.methodSignature (omega arith) refl)))
 
-    pub read-nobody : m < first → rowsAt l 6 ≤ row → ReaderIs u m from Nobody
-    read-nobody hi e = end-none u m (row - 1) (omega (arith, classes-are laid strings heap 6 (omega arith) refl)) _ (class .0) first inv hi
+    pub read-nobody : m < first → rowsAt l columns.methodList ≤ row → ReaderIs u m from Nobody
+    read-nobody hi e = end-none u m (row - 1) (omega (arith, classes-are laid strings heap columns.methodList (omega arith) refl)) _ (class .0) first inv hi
 
-    module _ (f : first ≤ m → from + 1 < row) (h : row < rowsAt l 6) {col : ℕ} (read : col ≡ cell t l 6 row)
+    module _ (f : first ≤ m → from + 1 < row) (h : row < rowsAt l columns.methodList) {col : ℕ} (read : col ≡ cell t l columns.methodList row)
         (n : col ≡ 0 → ⊥) {b : Bool} (has : b ≡ (leb first m && ltb m (col - 1))) where
       pub read-met : b ≡ true → 0 < row → {next : ClassNumber} → next ≡ classAt row → ReaderIs u m from (By class next)
       read-met e z is =
           let lo : first ≤ m = leb→le first m (and-left (leb first m) (ltb m (col - 1)) (rw (sym has ∙ e) tt)) in
           let after = f lo in
-          rw is (omega arith, omega (arith, classes-are laid strings heap 6 (omega arith) refl), turn-read m z h read _ (class .0) first inv n has e)
+          rw is (omega arith, omega (arith, classes-are laid strings heap columns.methodList (omega arith) refl), turn-read m z h read _ (class .0) first inv n has e)
 
 pub reader-is : (v : View) (m c : ℕ) {r r′ : ClassReader} → ReaderIs v m c r → r ≡ r′ → ReaderIs v m c r′
 reader-is v m c h e = subst (ReaderIs v m c) e h

@@ -33,6 +33,7 @@ use Rattle.record.specs.Methods.{Signature, signatureOf, paramText, parameterNa
 use Rattle.record.specs.Record.{Parameter, parametersFrom, method}
 use Rattle.record.specs.Answers.{_⟫_, orNoRow, item}
 use Rattle.record.proofs.Read.{method-row}
+use Rattle.rows.specs.Columns as columns
 use Rattle.rows.specs.Layout.{Laid, rowsAt, cell, optionsIn, headerIn, viewIn}
 use Rattle.rows.proofs.Laws.{rows-at}
 use Rattle.rendering.specs.Rendered.{Rendered}
@@ -168,18 +169,18 @@ module _ (type : Reader Text) (s : List ℕ) {at p : ℕ} (e : at ≡ p) {b b′
 
 -- ---- The names of parameters, by the ParamList column
 
-module _ {t l : List ℕ} (laid : Laid t l) (strings blob : List ℕ) (m : ℕ) (h : m < rowsAt l 10) {first : ℕ} (col : first ≡ cell t l 10 m) (p : ℕ) where
+module _ {t l : List ℕ} (laid : Laid t l) (strings blob : List ℕ) (m : ℕ) (h : m < rowsAt l columns.paramList) {first : ℕ} (col : first ≡ cell t l columns.paramList m) (p : ℕ) where
   abbrev v : View
   v = viewIn t l strings blob
 
   list-is : numberIn v paramList (methodRow v m) ≡ first
   unfolding viewOf
   list-is =
-      ap (λ (r : Option (List ℕ)). orDefault 0 (over (paramList (sizesOf v)) r)) (method-row (optionsIn l) t strings blob m (omega (arith, rows-at laid 10 (omega arith))))
+      ap (λ (r : Option (List ℕ)). orDefault 0 (over (paramList (sizesOf v)) r)) (method-row (optionsIn l) t strings blob m (omega (arith, rows-at laid columns.paramList (omega arith))))
       ∙ sym col
 
-  kept : rowsAt l 11 ≡ keptRows (optionsIn l) (headerIn t l) (length t) param
-  kept = rows-at laid 11 (omega arith)
+  kept : rowsAt l columns.paramName ≡ keptRows (optionsIn l) (headerIn t l) (length t) param
+  kept = rows-at laid columns.paramName (omega arith)
 
   pub name-missing : first ≡ 0 → parameterName v m p ≡ none
   unfolding parameterName
@@ -190,25 +191,25 @@ module _ {t l : List ℕ} (laid : Laid t l) (strings blob : List ℕ) (m : ℕ) 
     unfolding parameterName
     at-row = rw (list-is, ne-eqb first 0 n)
 
-    pub name-numbered : rowsAt l 11 < first + p → parameterName v m p ≡ some (q "P_" ++ decimal p)
+    pub name-numbered : rowsAt l columns.paramName < first + p → parameterName v m p ≡ some (q "P_" ++ decimal p)
     unfolding viewOf otherRow
     name-numbered k =
         at-row ∙ rw (ne-eqb (first + p) 0 (λ e. n (omega arith)), le-ltb (first + p - 1) (keptRows (optionsIn l) (headerIn t l) (length t) param) (omega (arith, kept)))
 
-    pub name-read : first + p ≤ rowsAt l 11 → parameterName v m p ≡ some (orDefault [] (string strings (cell t l 11 (first + p - 1))))
+    pub name-read : first + p ≤ rowsAt l columns.paramName → parameterName v m p ≡ some (orDefault [] (string strings (cell t l columns.paramName (first + p - 1))))
     unfolding viewOf otherRow
     name-read k =
         at-row ∙ rw (ne-eqb (first + p) 0 (λ e. n (omega arith)), lt-ltb (first + p - 1) (keptRows (optionsIn l) (headerIn t l) (length t) param) (omega (arith, kept)))
 
     -- The string that the Param row finds, and the empty name where it finds none.
-    module _ {part : Part} (k : first + p ≤ rowsAt l 11) where
-      pub said-no-param : part ≡ stringAt strings (cell t l 11 (first + p - 1)) → {why : Absence} → part ≡ Absent why → (b : List ℕ)
+    module _ {part : Part} (k : first + p ≤ rowsAt l columns.paramName) where
+      pub said-no-param : part ≡ stringAt strings (cell t l columns.paramName (first + p - 1)) → {why : Absence} → part ≡ Absent why → (b : List ℕ)
           → Said b 0 b (parameterName v m p) (some 0)
       said-no-param e f b = rw (name-read k, string-none strings _ (sym f ∙ e)) (written (wrote-none b 0 0 (omega arith)))
 
 -- The same with a lent heap, of which the string is a part.
-pub said-param : {t l : List ℕ} (laid : Laid t l) (strings : RefT (List ℕ)) (blob : List ℕ) (m : ℕ) (h : m < rowsAt l 10) {first : ℕ} (col : first ≡ cell t l 10 m) (p : ℕ)
-    (n : first ≡ 0 → ⊥) (k : first + p ≤ rowsAt l 11) {found : Part} → found ≡ stringAt (now strings) (cell t l 11 (first + p - 1))
+pub said-param : {t l : List ℕ} (laid : Laid t l) (strings : RefT (List ℕ)) (blob : List ℕ) (m : ℕ) (h : m < rowsAt l columns.paramList) {first : ℕ} (col : first ≡ cell t l columns.paramList m) (p : ℕ)
+    (n : first ≡ 0 → ⊥) (k : first + p ≤ rowsAt l columns.paramName) {found : Part} → found ≡ stringAt (now strings) (cell t l columns.paramName (first + p - 1))
     → {start len : ℕ} → found ≡ Found start len → {text : RefT (List ℕ)} → CutOf text strings start len
     → {b b′ : List ℕ} {at : ℕ} → Wrote b 0 (now text) b′ at → Said b 0 b′ (parameterName (viewIn t l (now strings) blob) m p) (some at)
 said-param laid strings blob m h col p n k e f c w =

@@ -19,10 +19,12 @@ ghost use lib.Dec.{leb, ltb};
 ghost use lib.ListN.{length};
 ghost use Rattle.buffers.specs.Writes.{Said, placeSays};
 ghost use Rattle.buffers.specs.Replies.{nameOr5, Named};
+ghost use Rattle.record.specs.Names.{levels};
 ghost use Rattle.record.specs.Types.{type};
 ghost use Rattle.record.specs.Methods.{readBy, signatureOf, parameterName};
 ghost use Rattle.record.specs.Record.{method};
 ghost use Rattle.record.specs.Answers.{_⟫_, item};
+ghost use Rattle.rows.specs.Columns as columns;
 ghost use Rattle.rows.specs.Layout.{Laid, rowsAt, viewIn};
 ghost use Rattle.signatures.specs.Environment.{envIn};
 ghost use Rattle.method_signatures.specs.Signatures.{behind, ReadFrom, ReaderIs, ReadingIs};
@@ -58,7 +60,7 @@ fn read_by(
     class: ClassNumber,
 ) -> Reading
     requires { ⌜ Laid (now tables) (now layout) ⌝ }
-    requires { ⌜ m < rowsAt (now layout) 9 ⌝ }
+    requires { ⌜ m < rowsAt (now layout) columns.methodSignature ⌝ }
     ensures { λ r. ⌜ ReadingIs (viewIn (now (tables .entry)) (now (layout .entry)) (now (strings .entry)) (now (blob .entry))) (now (blob .entry)) m (readBy (viewIn (now (tables .entry)) (now (layout .entry)) (now (strings .entry)) (now (blob .entry))) m (class .0)) (now (buf .entry)) (now (buf .exit)) r ⌝ }
 {
     let index = rows::read_column(tables, layout, columns::METHOD_SIGNATURE, m);
@@ -110,7 +112,7 @@ fn has_method(first: usize, end: usize, m: usize) -> bool
 // the last row whose column is at most m + 1.
 fn first_reader(tables: &[u8], layout: &Layout, m: usize) -> ClassNumber
     requires { ⌜ Laid (now tables) (now layout) ⌝ }
-    requires { ⌜ m < rowsAt (now layout) 9 ⌝ }
+    requires { ⌜ m < rowsAt (now layout) columns.methodSignature ⌝ }
     ensures { λ r. ⌜ ((strings blob : List ℕ) → ReadFrom (viewIn (now (tables .entry)) (now (layout .entry)) strings blob) m (r .0)) ⌝ }
 {
     if rows::is_marked(layout, columns::METHOD_LIST) {
@@ -126,7 +128,7 @@ fn first_reader(tables: &[u8], layout: &Layout, m: usize) -> ClassNumber
 // column is not 0, so it is known to read m once that one is met.
 fn next_reader(tables: &[u8], layout: &Layout, m: usize, from: ClassNumber) -> ClassReader
     requires { ⌜ Laid (now tables) (now layout) ⌝ }
-    requires { ⌜ m < rowsAt (now layout) 9 ⌝ }
+    requires { ⌜ m < rowsAt (now layout) columns.methodSignature ⌝ }
     ensures { λ r. ⌜ ((strings blob : List ℕ) → ReaderIs (viewIn (now (tables .entry)) (now (layout .entry)) strings blob) m (from .0) r) ⌝ }
 {
     let n = rows::count_rows(layout, columns::METHOD_LIST);
@@ -161,7 +163,7 @@ pub fn read_signature(
     m: usize,
 ) -> Reading
     requires { ⌜ Laid (now tables) (now layout) ⌝ }
-    requires { ⌜ m < rowsAt (now layout) 9 ⌝ }
+    requires { ⌜ m < rowsAt (now layout) columns.methodSignature ⌝ }
     ensures { λ r. ⌜ ReadingIs (viewIn (now (tables .entry)) (now (layout .entry)) (now (strings .entry)) (now (blob .entry))) (now (blob .entry)) m (signatureOf (viewIn (now (tables .entry)) (now (layout .entry)) (now (strings .entry)) (now (blob .entry))) m) (now (buf .entry)) (now (buf .exit)) r ⌝ }
 {
     let n = rows::count_rows(layout, columns::METHOD_LIST);
@@ -210,7 +212,7 @@ pub fn write_return_type(
     m: usize,
 ) -> Reply
     requires { ⌜ Laid (now tables) (now layout) ⌝ }
-    requires { ⌜ m < rowsAt (now layout) 9 ⌝ }
+    requires { ⌜ m < rowsAt (now layout) columns.methodSignature ⌝ }
     ensures { λ r. ⌜ Named (nameOr5 (method (viewIn (now (tables .entry)) (now (layout .entry)) (now (strings .entry)) (now (blob .entry))) m .returns)) (now (buf .entry)) r (now (buf .exit)) ⌝ }
 {
     match read_signature(buf, tables, strings, blob, layout, m) {
@@ -222,7 +224,7 @@ pub fn write_return_type(
 // How many parameters method m has. The text of its return type goes to a buffer of one byte, since only its length is counted.
 pub fn count_params(tables: &[u8], strings: &[u8], blob: &[u8], layout: &Layout, m: usize) -> usize
     requires { ⌜ Laid (now tables) (now layout) ⌝ }
-    requires { ⌜ m < rowsAt (now layout) 9 ⌝ }
+    requires { ⌜ m < rowsAt (now layout) columns.methodSignature ⌝ }
     ensures { λ r. ⌜ r ≡ length (method (viewIn (now (tables .entry)) (now (layout .entry)) (now (strings .entry)) (now (blob .entry))) m .parameters) ⌝ }
 {
     let mut space = [0u8; 1];
@@ -246,7 +248,7 @@ fn skip_types(
     count: usize,
 ) -> usize
     requires { ⌜ Laid (now tables) (now layout) ⌝ }
-    ensures { λ r. ⌜ (r ≡ behind (type (envIn (now (tables .entry)) (now (layout .entry)) (now (strings .entry)) (now (blob .entry)) class method) 17) count (now (sig .entry)) pos) × (length (now (buf .exit)) ≡ length (now (buf .entry))) ⌝ }
+    ensures { λ r. ⌜ (r ≡ behind (type (envIn (now (tables .entry)) (now (layout .entry)) (now (strings .entry)) (now (blob .entry)) class method) levels) count (now (sig .entry)) pos) × (length (now (buf .exit)) ≡ length (now (buf .entry))) ⌝ }
 {
     let mut p = pos;
     let mut i = 0;
@@ -290,7 +292,7 @@ fn write_type(
     before: usize,
 ) -> Reply
     requires { ⌜ Laid (now tables) (now layout) ⌝ }
-    ensures { λ r. ⌜ Named (nameOr5 (type (envIn (now (tables .entry)) (now (layout .entry)) (now (strings .entry)) (now (blob .entry)) class method) 17 (now (sig .entry)) (behind (type (envIn (now (tables .entry)) (now (layout .entry)) (now (strings .entry)) (now (blob .entry)) class method) 17) before (now (sig .entry)) pos) .got)) (now (buf .entry)) r (now (buf .exit)) ⌝ }
+    ensures { λ r. ⌜ Named (nameOr5 (type (envIn (now (tables .entry)) (now (layout .entry)) (now (strings .entry)) (now (blob .entry)) class method) levels (now (sig .entry)) (behind (type (envIn (now (tables .entry)) (now (layout .entry)) (now (strings .entry)) (now (blob .entry)) class method) levels) before (now (sig .entry)) pos) .got)) (now (buf .entry)) r (now (buf .exit)) ⌝ }
 {
     let at = skip_types(
         buf,
@@ -333,7 +335,7 @@ pub fn write_param_type(
     p: u32,
 ) -> Reply
     requires { ⌜ Laid (now tables) (now layout) ⌝ }
-    requires { ⌜ m < rowsAt (now layout) 9 ⌝ }
+    requires { ⌜ m < rowsAt (now layout) columns.methodSignature ⌝ }
     ensures { λ r. ⌜ Named (item (method (viewIn (now (tables .entry)) (now (layout .entry)) (now (strings .entry)) (now (blob .entry))) m .parameters) p ⟫ (λ k. nameOr5 (k .type))) (now (buf .entry)) r (now (buf .exit)) ⌝ }
 {
     match read_signature(buf, tables, strings, blob, layout, m) {
@@ -376,7 +378,7 @@ fn push_param_name(
     p: u32,
 ) -> Place
     requires { ⌜ Laid (now tables) (now layout) ⌝ }
-    requires { ⌜ m < rowsAt (now layout) 10 ⌝ }
+    requires { ⌜ m < rowsAt (now layout) columns.paramList ⌝ }
     ensures { λ r. ⌜ ((blob : List ℕ) → Said (now (buf .entry)) 0 (now (buf .exit)) (parameterName (viewIn (now (tables .entry)) (now (layout .entry)) (now (strings .entry)) blob) m p) (placeSays r)) ⌝ }
 {
     let first = rows::read_column(tables, layout, columns::PARAM_LIST, m) as usize;
@@ -414,7 +416,7 @@ pub fn write_param_name(
     p: u32,
 ) -> Reply
     requires { ⌜ Laid (now tables) (now layout) ⌝ }
-    requires { ⌜ m < rowsAt (now layout) 9 ⌝ }
+    requires { ⌜ m < rowsAt (now layout) columns.methodSignature ⌝ }
     ensures { λ r. ⌜ Named (item (method (viewIn (now (tables .entry)) (now (layout .entry)) (now (strings .entry)) (now (blob .entry))) m .parameters) p ⟫ (λ k. nameOr5 (k .name))) (now (buf .entry)) r (now (buf .exit)) ⌝ }
 {
     match read_signature(buf, tables, strings, blob, layout, m) {

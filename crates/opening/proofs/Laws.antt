@@ -13,6 +13,7 @@ use Rattle.header.specs.declared.Header.{Header}
 use Rattle.header.specs.declared.Opened.{Opened}
 use Rattle.header.specs.declared.Opened.the-variants.{Refused, Ready}
 use Rattle.record.specs.View.{view}
+use Rattle.rows.specs.Columns as columns
 use Rattle.rows.specs.Layout.{layoutOf, optionsIn, Laid, viewIn}
 use Rattle.opening.specs.Opening.{OpenedAs, Unmarked}
 
@@ -30,7 +31,7 @@ module _ (o : Options) (t : List ℕ) {l : List ℕ} (u : Unmarked (layoutOf o (
   unfolding optionsIn
   said =
       let same = opened-options o (opened o t) (length t) in
-      rw (u .same 76 (omega arith), u .same 77 (omega arith)) same
+      rw (u .same columns.limit (omega arith), u .same columns.security (omega arith)) same
 
   fresh : opened o t .answer ≡ Ready → o .limit < 4_294_967_296 → Laid t l
   fresh r n =
@@ -43,7 +44,7 @@ module _ (o : Options) (t : List ℕ) {l : List ℕ} (u : Unmarked (layoutOf o (
 
 -- The answer of opening, by what the code finds.
 module _ {o : Options} {t : List ℕ} {h : Header} (e : h ≡ opened o t) where
-  pub is-refused : {why : Refusal} {a : Opened} {l : List ℕ} → h .answer ≡ Refused why → (a ≡ Refused why) × (l ≡ replicate 97 0) → OpenedAs o t a l
+  pub is-refused : {why : Refusal} {a : Opened} {l : List ℕ} → h .answer ≡ Refused why → (a ≡ Refused why) × (l ≡ replicate columns.size 0) → OpenedAs o t a l
   is-refused f (g, z) =
       record {
         answer = g ∙ sym f ∙ ap (λ (x : Header). x .answer) e;

@@ -19,6 +19,7 @@ use Rattle.layouts.proofs.Reaches.{below}
 use Rattle.layouts.proofs.Lists.{made-at}
 use Rattle.tables.specs.Extents.{Walked, walkSays, walkReply, extent, onlyEntire, keptRows, sizesIn}
 use Rattle.tables.specs.declared.Extents.{Extents}
+use Rattle.rows.specs.Columns as columns
 use Rattle.rows.specs.Layout.{columnNumbers, layoutOf}
 use Rattle.rows.proofs.Laws.{numbers-at}
 use Rattle.opening.specs.Opening.{Unmarked}
@@ -39,14 +40,14 @@ kept-others k rows count e f = rw (← e, f)
 
 -- The first m numbers of l are those of the layout `all`, and the others are 0.
 pub record Filled (all l : List ℕ) (m : ℕ) : Type 0 where
-  pub long : length l ≡ 97
+  pub long : length l ≡ columns.size
   pub same : (j : ℕ) → j < m → getD l j 0 ≡ getD all j 0
-  pub unset : (j : ℕ) → m ≤ j → j < 97 → getD l j 0 ≡ 0
+  pub unset : (j : ℕ) → m ≤ j → j < columns.size → getD l j 0 ≡ 0
 
-pub empty : (all : List ℕ) → Filled all (replicate 97 0) 0
-empty all = record { long = refl; same = λ j h. absurd (not-suc-le-zero h); unset = λ j h k. getD-replicate 97 j 0 0 k }
+pub empty : (all : List ℕ) → Filled all (replicate columns.size 0) 0
+empty all = record { long = refl; same = λ j h. absurd (not-suc-le-zero h); unset = λ j h k. getD-replicate columns.size j 0 0 k }
 
-pub put : {all l : List ℕ} {m : ℕ} → Filled all l m → m < 78 → (v : ℕ) → v ≡ getD all m 0 → Filled all (set l m v) (m + 1)
+pub put : {all l : List ℕ} {m : ℕ} → Filled all l m → m < columns.marks → (v : ℕ) → v ≡ getD all m 0 → Filled all (set l m v) (m + 1)
 put {all} {l} {m} f h v e =
     record {
       long = simp length-set (f .long);
@@ -56,7 +57,7 @@ put {all} {l} {m} f h v e =
       unset = λ j a b. getD-set-other l m j v 0 (λ r. omega arith) ∙ f .unset j (omega arith) b;
     }
 
-pub turn : {all l : List ℕ} {c : ℕ} → Filled all l (4 * c) → c < 19 → {v0 v1 v2 v3 : ℕ}
+pub turn : {all l : List ℕ} {c : ℕ} → Filled all l (4 * c) → c < columns.count → {v0 v1 v2 v3 : ℕ}
     → v0 ≡ getD all (4 * c) 0
     → v1 ≡ getD all (4 * c + 1) 0
     → v2 ≡ getD all (4 * c + 2) 0
@@ -73,29 +74,29 @@ turn {all} {l} {c} f h {v0} {v1} {v2} {v3} e0 e1 e2 e3 =
     rw r at g
 
 -- What an array of the code has for a column.
-pub read-at : (g : Of → ℕ) (l : List ℕ) → l ≡ map g readColumns → (c : ℕ) → c < 19 → getD l c 0 ≡ g (readColumn c)
-read-at g l e c h = rw e (made-at g (readColumn 19) readColumns c 0 h)
+pub read-at : (g : Of → ℕ) (l : List ℕ) → l ≡ map g readColumns → (c : ℕ) → c < columns.count → getD l c 0 ≡ g (readColumn c)
+read-at g l e c h = rw e (made-at g (readColumn columns.count) readColumns c 0 h)
 
 -- The table of a column has a number that an array of 64 has.
 pub kind-below : (kinds : List ℕ) → kinds ≡ map (λ x. x .kind) readColumns → (c : ℕ) → getD kinds c 0 < 64
 kind-below kinds e c = rw e (below (map (λ x. x .kind) readColumns) refl c)
 
 module _ (o : Options) (h : Header) (n : ℕ) where
-  layout-at : (c d : ℕ) → c < 19 → d < 4 → getD (layoutOf o h n) (4 * c + d) 0 ≡ getD (columnNumbers o h n (readColumn c)) d 0
+  layout-at : (c d : ℕ) → c < columns.count → d < 4 → getD (layoutOf o h n) (4 * c + d) 0 ≡ getD (columnNumbers o h n (readColumn c)) d 0
   unfolding layoutOf
-  layout-at c d l k = numbers-at o h n readColumns (o .limit ∷ cond (o .security) 1 0 ∷ []) (readColumn 19) c d l k
+  layout-at c d l k = numbers-at o h n readColumns (o .limit ∷ cond (o .security) 1 0 ∷ []) (readColumn columns.count) c d l k
 
   -- All turns are done, and the options are stored.
-  pub whole : {l : List ℕ} {c v w : ℕ} → Filled (layoutOf o h n) l (4 * c) → c ≤ 19 → 19 ≤ c → v ≡ o .limit → w ≡ cond (o .security) 1 0
-      → Unmarked (layoutOf o h n) (set (set l 76 v) 77 w)
+  pub whole : {l : List ℕ} {c v w : ℕ} → Filled (layoutOf o h n) l (4 * c) → c ≤ columns.count → columns.count ≤ c → v ≡ o .limit → w ≡ cond (o .security) 1 0
+      → Unmarked (layoutOf o h n) (set (set l columns.limit v) columns.security w)
   unfolding layoutOf
   whole {l} {c} {v} {w} f p q e g =
-      let z : 4 * c ≡ 76 = omega arith in
+      let z : 4 * c ≡ columns.limit = omega arith in
       let a = put (put (rw z at f) (omega arith) v e) (omega arith) w g in
-      record { same = a .same; none = λ k d. a .unset (78 + k) (omega arith) (omega arith) }
+      record { same = a .same; none = λ k d. a .unset (columns.marks + k) (omega arith) (omega arith) }
 
   -- The four numbers of a column, as the code has them.
-  module _ (r : Extents) (e : walkSays r ≡ walkReply o h n) (c k : ℕ) (l : c < 19) (ek : k ≡ readColumn c .kind) where
+  module _ (r : Extents) (e : walkSays r ≡ walkReply o h n) (c k : ℕ) (l : c < columns.count) (ek : k ≡ readColumn c .kind) where
     pub first-is : (w : IndexSizes) (f g : ℕ) → w ≡ sizesIn o h → f ≡ offsetIn w (readColumn c) → g ≡ f
         → getD (r .starts) k 0 + g ≡ getD (layoutOf o h n) (4 * c) 0
     unfolding extent
@@ -112,6 +113,6 @@ module _ (o : Options) (h : Header) (n : ℕ) where
     unfolding extent keptRows
     kept-is v ev = ev ∙ rw (ap (λ (w : Walked). w .rows) e, ek) (sym (layout-at c 3 l (omega arith)))
 
-  pub width-is : (c : ℕ) → c < 19 → (w : IndexSizes) (f g : ℕ) → w ≡ sizesIn o h → f ≡ bytesIn w (readColumn c) → g ≡ f
+  pub width-is : (c : ℕ) → c < columns.count → (w : IndexSizes) (f g : ℕ) → w ≡ sizesIn o h → f ≡ bytesIn w (readColumn c) → g ≡ f
       → g ≡ getD (layoutOf o h n) (4 * c + 2) 0
   width-is c l w f g ew ef eg = eg ∙ ef ∙ ap (λ (v : IndexSizes). bytesIn v (readColumn c)) ew ∙ sym (layout-at c 2 l (omega arith))

@@ -8,6 +8,7 @@ use Rattle.header.specs.Opening.{opened}
 use Rattle.header.specs.declared.Options.{Options}
 use Rattle.header.specs.declared.Opened.{Opened}
 use Rattle.header.specs.declared.Opened.the-variants.{Ready, Refused}
+use Rattle.rows.specs.Columns as columns
 use Rattle.rows.specs.Layout.{Laid, optionsIn, markAt}
 
 -- Opening the tables stream t by the options o gives the answer a, and the layout l, which says the options; zeros where it is refused.
@@ -15,9 +16,9 @@ pub record OpenedAs (o : Options) (t : List ℕ) (a : Opened) (l : List ℕ) : T
   pub answer : a ≡ opened o t .answer
   pub laid : a ≡ Ready → Laid t l
   pub options : a ≡ Ready → optionsIn l ≡ o
-  pub blank : {why : Refusal} → a ≡ Refused why → l ≡ replicate 97 0
+  pub blank : {why : Refusal} → a ≡ Refused why → l ≡ replicate columns.size 0
 
 -- l begins with these numbers, those of a layout, and has no mark.
 pub record Unmarked (numbers l : List ℕ) : Type 0 where
-  pub same : (i : ℕ) → i < 78 → getD l i 0 ≡ getD numbers i 0
-  pub none : (c : ℕ) → c < 19 → markAt l c ≡ 0
+  pub same : (i : ℕ) → i < columns.marks → getD l i 0 ≡ getD numbers i 0
+  pub none : (c : ℕ) → c < columns.count → markAt l c ≡ 0

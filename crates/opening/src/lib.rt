@@ -2,7 +2,9 @@
 use buffers::Refusal;
 use header::Opened;
 use header::Options;
+use numbers::wide;
 use rows::Layout;
+use rows::columns;
 ghost use mathlib.Core.Path.{_≡_};
 ghost use mathlib.Core.Bool.{cond, _&&_, not};
 ghost use Prim.Native.Nat.{_≤_, _<_};
@@ -10,6 +12,7 @@ ghost use lib.Dec.{eqb};
 ghost use lib.ListN.{replicate};
 ghost use Rattle.header.specs.declared.Opened.the-variants.{Refused, Ready};
 ghost use Rattle.tables.specs.Extents.{onlyEntire};
+ghost use Rattle.rows.specs.Columns as columns;
 ghost use Rattle.rows.specs.Layout.{layoutOf};
 ghost use Rattle.opening.specs.Opening.{OpenedAs, Unmarked};
 
@@ -27,12 +30,6 @@ const TYPE_SPEC: usize = 0x1B;
 pub struct Opening {
     pub answer: Opened,
     pub layout: Layout,
-}
-
-fn wide(x: u32) -> usize
-    ensures { λ r. ⌜ (r ≡ x) × (r < 4294967296) ⌝ }
-{
-    x as usize
 }
 
 fn flag(b: bool) -> usize
@@ -86,25 +83,25 @@ fn lay(len: usize, first: usize, heap: u8, counts: &[u32; 64], options: Options)
     let kinds = layouts::columns::column_kinds();
     let offsets = layouts::columns::column_offsets(sizes);
     let widths = layouts::columns::column_widths(sizes);
-    let mut layout = [0usize; 97];
-    for c in 0..19 {
+    let mut layout = [0usize; columns::SIZE];
+    for c in 0..columns::COUNT {
         let kind = kinds[c];
         layout[4 * c] = walk.starts[kind] + wide(offsets[c]);
         layout[4 * c + 1] = wide(walk.sizes[kind]);
         layout[4 * c + 2] = wide(widths[c]);
         layout[4 * c + 3] = kept_rows(kind, walk.rows[kind], counts[kind]);
     }
-    layout[76] = wide(options.limit);
-    layout[77] = flag(security);
+    layout[columns::LIMIT] = wide(options.limit);
+    layout[columns::SECURITY] = flag(security);
     layout
 }
 
 fn refuse(why: Refusal) -> Opening
-    ensures { λ r. ⌜ (r .answer ≡ Refused why) × (r .layout ≡ replicate 97 0) ⌝ }
+    ensures { λ r. ⌜ (r .answer ≡ Refused why) × (r .layout ≡ replicate columns.size 0) ⌝ }
 {
     Opening {
         answer: Opened::Refused(why),
-        layout: [0; 97],
+        layout: [0; columns::SIZE],
     }
 }
 

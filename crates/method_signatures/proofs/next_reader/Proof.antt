@@ -4,6 +4,7 @@ use Prim.Native.Nat.{ℕ, _+_, _-_, _≤_, _<_}
 use native.Mathlib.Omega.{arith}
 use borrow.Author.Needs.{needs}
 use Rattle.classes.specs.Numbering.{placeOf}
+use Rattle.rows.specs.Columns as columns
 use Rattle.rows.specs.Layout.{rowsAt, viewIn}
 use Rattle.rows.proofs.Laws.{rows-narrow}
 use Rattle.method_signatures.specs.Signatures.{readFrom}
@@ -20,7 +21,7 @@ abbrev Inv-loop : tie.InvT-loop
 Inv-loop tables layout m n from first₀ place₀ class first place =
     (placeOf from ≤ place)
     × (first ≤ m → placeOf from < place)
-    × (first ≤ m → place ≤ rowsAt layout 6)
+    × (first ≤ m → place ≤ rowsAt layout columns.methodList)
     × ((strings blob : List ℕ)
     → Standing (viewIn tables layout strings blob) m (readFrom (viewIn tables layout strings blob) m (from .0)) (place - 1) (class .0) first)
 
@@ -35,7 +36,7 @@ count-rows-requires c κs = search needs
 add-first : tie.Need-add-first Inv-loop μ-loop
 add-first c =
     let start = c .before .before in
-    record { fits = omega (arith, start .pre .1, rows-narrow (start .pre .0) 9 (omega arith)) }
+    record { fits = omega (arith, start .pre .1, rows-narrow (start .pre .0) columns.methodSignature (omega arith)) }
 
 -- src/lib.rt:0:0
 place-of-requires : tie.Need-place-of-requires Inv-loop μ-loop
@@ -70,7 +71,7 @@ class-at-requires c κs =
     let l = c .before .before .loop in
     let counted = c .before .before .before .before in
     let start = counted .before .before in
-    (omega (arith, l .inv .0), omega (arith, c .before .loop-test .taken, counted .count-rows .ensures, rows-narrow (start .pre .0) 6 (omega arith)))
+    (omega (arith, l .inv .0), omega (arith, c .before .loop-test .taken, counted .count-rows .ensures, rows-narrow (start .pre .0) columns.methodList (omega arith)))
 
 -- src/lib.rt:0:0
 add-place : tie.Need-add-place Inv-loop μ-loop
@@ -93,7 +94,7 @@ returns c =
     let l = read .before .before .loop in
     let counted = read .before .before .before .before in
     let start = counted .before .before in
-    let low : l .place < rowsAt (start .args .layout .now) 6 = omega (arith, read .before .loop-test .taken, counted .count-rows .ensures) in
+    let low : l .place < rowsAt (start .args .layout .now) columns.methodList = omega (arith, read .before .loop-test .taken, counted .count-rows .ensures) in
     λ strings blob.
     read-met (start .pre .0) strings blob (start .args .m) (start .args .from .0) (l .class) (l .first) (l .place) (l .inv .3 strings blob)
     (l .inv .1) low (read .read-column .ensures) (met .if1 .taken) (tested .has-method .ensures) (c .if2 .taken) (omega (arith, l .inv .0))
@@ -116,7 +117,7 @@ loop-again c =
     let l = read .before .before .loop in
     let counted = read .before .before .before .before in
     let start = counted .before .before in
-    let low : l .place < rowsAt (start .args .layout .now) 6 = omega (arith, read .before .loop-test .taken, counted .count-rows .ensures) in (
+    let low : l .place < rowsAt (start .args .layout .now) columns.methodList = omega (arith, read .before .loop-test .taken, counted .count-rows .ensures) in (
       omega (arith, l .inv .0),
       λ _. omega (arith, l .inv .0),
       λ _. omega (arith, low),
@@ -135,7 +136,7 @@ loop-again-2 c =
     let l = read .before .before .loop in
     let counted = read .before .before .before .before in
     let start = counted .before .before in
-    let low : l .place < rowsAt (start .args .layout .now) 6 = omega (arith, read .before .loop-test .taken, counted .count-rows .ensures) in (
+    let low : l .place < rowsAt (start .args .layout .now) columns.methodList = omega (arith, read .before .loop-test .taken, counted .count-rows .ensures) in (
       omega (arith, l .inv .0),
       λ _. omega (arith, l .inv .0),
       λ _. omega (arith, low),
@@ -148,7 +149,7 @@ class-at-requires-2 : tie.Need-class-at-requires-2 Inv-loop μ-loop
 class-at-requires-2 c κs =
     let l = c .before .before .loop in
     let start = c .before .before .before .before .before .before in
-    (omega (arith, l .inv .0), omega (arith, l .inv .2 (c .if3 .taken), rows-narrow (start .pre .0) 6 (omega arith)))
+    (omega (arith, l .inv .0), omega (arith, l .inv .2 (c .if3 .taken), rows-narrow (start .pre .0) columns.methodList (omega arith)))
 
 -- src/lib.rt:0:0
 returns-2 : tie.Need-returns-2 Inv-loop μ-loop
@@ -156,7 +157,7 @@ returns-2 c =
     let l = c .before .before .before .loop in
     let counted = c .before .before .before .before .before in
     let start = counted .before .before in
-    let all : l .place ≡ rowsAt (start .args .layout .now) 6 =
+    let all : l .place ≡ rowsAt (start .args .layout .now) columns.methodList =
     omega (arith, l .inv .2 (c .before .if3 .taken), c .before .before .loop-test .left, counted .count-rows .ensures) in
     λ strings blob.
     read-last (start .pre .0) strings blob (start .args .m) (start .args .from .0) (l .class) (l .first) (l .place) (l .inv .3 strings blob)

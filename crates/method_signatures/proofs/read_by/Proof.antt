@@ -1,4 +1,5 @@
 use native.Mathlib.Omega.{arith}
+use Rattle.rows.specs.Columns as columns
 use Rattle.numbers.proofs.Parts.{cut-is}
 use Rattle.rows.proofs.Laws.{rows-narrow}
 use Rattle.method_signatures.proofs.Laws.{no-blob, no-start, no-type, signature-there, inside}
@@ -49,19 +50,19 @@ enum-known-count c = search needs
 add-t26 : tie.Need-add-t26
 add-t26 c =
     let start = c .before .before .before .before .before .before .before .before .before .before .before .before .before .before .before .before in
-    record { fits = omega (arith, start .pre .1, rows-narrow (start .pre .0) 9 (omega arith)) }
+    record { fits = omega (arith, start .pre .1, rows-narrow (start .pre .0) columns.methodSignature (omega arith)) }
 
 -- src/lib.rt:72:35
 mul-t27 : tie.Need-mul-t27
 mul-t27 c =
     let start = c .before .before .before .before .before .before .before .before .before .before .before .before .before .before .before .before in
-    record { fits = omega (arith, start .pre .1, rows-narrow (start .pre .0) 9 (omega arith)) }
+    record { fits = omega (arith, start .pre .1, rows-narrow (start .pre .0) columns.methodSignature (omega arith)) }
 
 -- src/lib.rt:72:35
 add-t28 : tie.Need-add-t28
 add-t28 c =
     let start = c .before .before .before .before .before .before .before .before .before .before .before .before .before .before .before .before in
-    record { fits = omega (arith, start .pre .1, rows-narrow (start .pre .0) 9 (omega arith)) }
+    record { fits = omega (arith, start .pre .1, rows-narrow (start .pre .0) columns.methodSignature (omega arith)) }
 
 -- src/lib.rt:64:27
 parse-sig-type-requires : tie.Need-parse-sig-type-requires

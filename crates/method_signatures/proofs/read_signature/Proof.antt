@@ -4,6 +4,7 @@ use native.Mathlib.Omega.{arith}
 use borrow.Author.Needs.{needs}
 use lib.ListN.{length}
 use Rattle.record.specs.Names.{classes}
+use Rattle.rows.specs.Columns as columns
 use Rattle.rows.specs.Layout.{viewIn}
 use Rattle.rows.proofs.Laws.{rows-narrow}
 use Rattle.rows.proofs.Classes.{classes-are}
@@ -139,7 +140,7 @@ returns-3 c =
     let start = c .before .before .before .before .before .before .before .before .before in
     let a = start .args in
     let v = viewIn (a .tables .now) (a .layout .now) (a .strings .now) (a .blob .now) in
-    let all = classes-are (start .pre .0) (a .strings .now) (a .blob .now) 6 (omega arith) refl in
+    let all = classes-are (start .pre .0) (a .strings .now) (a .blob .now) columns.methodList (omega arith) refl in
     let past : classes v ≤ l .class .0 = omega (arith, c .if1 .left, c .before .place-of .ensures, c .before .before .before .before .count-rows .ensures, all) in
     missing (l .inv .1 ∙ from-none v (a .m) (l .class .0) past) (l .inv .0)
 

@@ -4,6 +4,7 @@ use Prim.Native.Nat.{suc, _+_, _-_, _≤_}
 use native.Mathlib.Nat.{sub-zero}
 use native.Mathlib.Omega.{arith}
 use lib.ListN.{length}
+use Rattle.record.specs.Names.{levels}
 use Rattle.record.specs.Types.{type}
 use Rattle.rendering.proofs.Laws.{rendered-done, rendered-failed}
 use Rattle.signatures.specs.Environment.{envIn}
@@ -16,7 +17,7 @@ use Rattle.method_signatures.proofs.skip_types.Lts as lts
 use Rattle.signatures.proofs.parse_sig_type.Reads as parse-sig-type-reads
 
 abbrev Inv-loop : tie.InvT-loop
-Inv-loop buf₀ tables strings blob layout class method sig pos count p₀ i₀ buf p i = (i ≤ count) × (length buf ≡ length buf₀) × (behind (type (envIn tables layout strings blob class method) 17) (count - i) sig p ≡ behind (type (envIn tables layout strings blob class method) 17) count sig pos)
+Inv-loop buf₀ tables strings blob layout class method sig pos count p₀ i₀ buf p i = (i ≤ count) × (length buf ≡ length buf₀) × (behind (type (envIn tables layout strings blob class method) levels) (count - i) sig p ≡ behind (type (envIn tables layout strings blob class method) levels) count sig pos)
 
 abbrev μ-loop : tie.MeasureT-loop
 μ-loop buf₀ tables strings blob layout class method sig pos count p₀ i₀ buf p i = count - i

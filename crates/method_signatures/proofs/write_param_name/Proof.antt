@@ -1,5 +1,6 @@
 use mathlib.Core.Path.{refl, ap}
 use native.Mathlib.Omega.{arith}
+use Rattle.rows.specs.Columns as columns
 use Rattle.buffers.specs.Writes.{placeSays}
 use Rattle.buffers.specs.Replies.{nameOr5}
 use Rattle.buffers.proofs.Replies.{named-some, named-none}
@@ -45,7 +46,7 @@ returns c =
 push-param-name-requires : tie.Need-push-param-name-requires
 push-param-name-requires c κs =
     let start = c .before .before .before .before .before .before .before .before .before .before .before .before .before in
-    (start .pre .0, omega (arith, start .pre .1, same-rows (start .pre .0) 9 10 (omega arith) (omega arith) refl))
+    (start .pre .0, omega (arith, start .pre .1, same-rows (start .pre .0) columns.methodSignature columns.paramList (omega arith) (omega arith) refl))
 
 -- src/lib.rt:404:29
 enum-known-end : tie.Need-enum-known-end

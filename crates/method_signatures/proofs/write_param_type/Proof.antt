@@ -1,4 +1,5 @@
 use native.Mathlib.Omega.{arith}
+use Rattle.rows.specs.Columns as columns
 use Rattle.numbers.proofs.Parts.{cut-is}
 use Rattle.buffers.specs.Replies.{nameOr5}
 use Rattle.record.specs.Record.{Parameter}
@@ -48,19 +49,19 @@ cut-requires c κs = search needs
 add-t25 : tie.Need-add-t25
 add-t25 c =
     let start = c .before .before .before .before .before .before .before .before .before .before .before .before .before .before in
-    record { fits = omega (arith, start .pre .1, rows-narrow (start .pre .0) 9 (omega arith)) }
+    record { fits = omega (arith, start .pre .1, rows-narrow (start .pre .0) columns.methodSignature (omega arith)) }
 
 -- src/lib.rt:337:27
 mul-t26 : tie.Need-mul-t26
 mul-t26 c =
     let start = c .before .before .before .before .before .before .before .before .before .before .before .before .before .before in
-    record { fits = omega (arith, start .pre .1, rows-narrow (start .pre .0) 9 (omega arith)) }
+    record { fits = omega (arith, start .pre .1, rows-narrow (start .pre .0) columns.methodSignature (omega arith)) }
 
 -- src/lib.rt:337:27
 add-t27 : tie.Need-add-t27
 add-t27 c =
     let start = c .before .before .before .before .before .before .before .before .before .before .before .before .before .before in
-    record { fits = omega (arith, start .pre .1, rows-narrow (start .pre .0) 9 (omega arith)) }
+    record { fits = omega (arith, start .pre .1, rows-narrow (start .pre .0) columns.methodSignature (omega arith)) }
 
 -- src/lib.rt:330:13
 write-type-requires : tie.Need-write-type-requires

@@ -1,3 +1,4 @@
+use Rattle.record.specs.Names.{levels}
 use Rattle.record.specs.Types.{type}
 use Rattle.signatures.specs.Environment.{envIn}
 use Rattle.buffers.proofs.Replies.{named-length, named-some, named-none}
@@ -49,7 +50,7 @@ returns c =
     let at-skip-types = at-parse-sig-type .before .before .before .before in
     let start = at-skip-types .before .before .before .before .before .before .before in
     let a = start .args in
-    let T = type (envIn (a .tables .now) (a .layout .now) (a .strings .now) (a .blob .now) (a .class) (a .method)) 17 in
+    let T = type (envIn (a .tables .now) (a .layout .now) (a .strings .now) (a .blob .now) (a .class) (a .method)) levels in
     named-length (at-skip-types .skip-types .ensures .1) (named-some (said-type T (a .sig .now) (at-skip-types .skip-types .ensures .0) (at-parse-sig-type .parse-sig-type .ensures) (at-end .end .given .1)) (at-finish .finish .ensures))
 
 -- src/lib.rt:258:1
@@ -65,7 +66,7 @@ returns-2 c =
     let at-skip-types = at-parse-sig-type .before .before .before .before in
     let start = at-skip-types .before .before .before .before .before .before .before in
     let a = start .args in
-    let T = type (envIn (a .tables .now) (a .layout .now) (a .strings .now) (a .blob .now) (a .class) (a .method)) 17 in
+    let T = type (envIn (a .tables .now) (a .layout .now) (a .strings .now) (a .blob .now) (a .class) (a .method)) levels in
     named-length (at-skip-types .skip-types .ensures .1) (named-none (said-no-type T (a .sig .now) (at-skip-types .skip-types .ensures .0) (at-parse-sig-type .parse-sig-type .ensures) (at-enum-told .enum-told .given .1)) (at-refuse .refuse .ensures))
 
 pub write-type-spec : {M : Type 1} → statement M

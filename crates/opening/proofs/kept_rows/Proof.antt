@@ -6,7 +6,7 @@ use Rattle.opening.proofs.kept_rows.Tie as tie
 use Rattle.opening.proofs.kept_rows.Reads as reads
 use Rattle.opening.proofs.kept_rows.Lts as lts
 use Rattle.opening.proofs.only_entire.Reads as only-entire-reads
-use Rattle.opening.proofs.wide.Reads as wide-reads
+use Rattle.numbers.proofs.wide.Reads as wide-reads
 
 -- src/lib.rt:69:9
 wide-requires : tie.Need-wide-requires

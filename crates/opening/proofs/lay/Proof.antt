@@ -8,6 +8,7 @@ use Rattle.layouts.specs.Read.{offsetIn, bytesIn}
 use Rattle.layouts.proofs.Facts.{size-pos}
 use Rattle.tables.specs.Extents.{walkReply}
 use Rattle.tables.proofs.Outcome.{same-walk}
+use Rattle.rows.specs.Columns as columns
 use Rattle.rows.specs.Layout.{layoutOf}
 use Rattle.opening.proofs.Starts.{start-within}
 use Rattle.opening.proofs.Laying.{Filled, empty, turn, whole, read-at, kind-below, first-is, step-is, width-is, kept-is}
@@ -21,15 +22,15 @@ use Rattle.layouts.proofs.columns.column_widths.Reads as column-widths-reads
 use Rattle.layouts.proofs.index_sizes.Reads as index-sizes-reads
 use Rattle.opening.proofs.flag.Reads as flag-reads
 use Rattle.opening.proofs.kept_rows.Reads as kept-rows-reads
-use Rattle.opening.proofs.wide.Reads as wide-reads
+use Rattle.numbers.proofs.wide.Reads as wide-reads
 use Rattle.tables.proofs.walk_tables.Reads as walk-tables-reads
 
 abbrev Inv-loop : tie.InvT-loop
 Inv-loop len first heap counts options security walk kinds offsets widths layout₀ c₀ layout c =
-    (c ≤ 19) × Filled (layoutOf options (record { answer = Ready; heap = heap; first = first; counts = counts }) len) layout (4 * c)
+    (c ≤ columns.count) × Filled (layoutOf options (record { answer = Ready; heap = heap; first = first; counts = counts }) len) layout (4 * c)
 
 abbrev μ-loop : tie.MeasureT-loop
-μ-loop len first heap counts options security walk kinds offsets widths layout₀ c₀ layout c = 19 - c
+μ-loop len first heap counts options security walk kinds offsets widths layout₀ c₀ layout c = columns.count - c
 
 -- src/lib.rt:83:9
 index-sizes-requires : tie.Need-index-sizes-requires Inv-loop μ-loop
