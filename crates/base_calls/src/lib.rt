@@ -38,7 +38,8 @@ pub fn base_name(
     b: u32,
     buf: &mut [u8],
 ) -> Reply
-    ensures { λ r. ⌜ Named (baseName (view options (now (tables .entry)) (now (strings .entry)) (now (blob .entry))) (class .0) b) (now (buf .entry)) r (now (buf .exit)) ⌝ }
+    ensures { λ r. let v = view options (now (tables .entry)) (now (strings .entry)) (now (blob .entry)) in
+        ⌜ Named (baseName v (class .0) b) (now (buf .entry)) r (now (buf .exit)) ⌝ }
 {
     let opened = opening::open(tables, options);
     let answer = opened.answer;

@@ -11,6 +11,7 @@ ghost use mathlib.Core.Path.{_≡_};
 ghost use Prim.Native.Nat.{_+_, _-_, _<_, _≤_};
 ghost use lib.ListN.{length, getElem?};
 ghost use Rattle.buffers.specs.Writes.{Said, placeSays};
+ghost use Rattle.classes.specs.Numbering.{classOf};
 ghost use Rattle.record.specs.Names.{typeNameIn, baseTypes};
 ghost use Rattle.rows.specs.Columns as columns;
 ghost use Rattle.rows.specs.Layout.{Laid, rowsAt, viewIn};
@@ -40,7 +41,8 @@ fn render_type(
 ) -> Place
     requires { ⌜ Laid (now tables) (now layout) ⌝ }
     requires { ⌜ 1 < row .0 ⌝ }
-    ensures { λ r. ⌜ Said (now (buf .entry)) 0 (now (buf .exit)) (typeNameIn (viewIn (now (tables .entry)) (now (layout .entry)) (now (strings .entry)) (now (blob .entry))) (row .0 - 2) index) (placeSays r) ⌝ }
+    ensures { λ r. let v = viewIn (now (tables .entry)) (now (layout .entry)) (now (strings .entry)) (now (blob .entry)) in
+        ⌜ Said (now (buf .entry)) 0 (now (buf .exit)) (typeNameIn v (classOf row) index) (placeSays r) ⌝ }
 {
     let class = Owner::Of(2 * wide(row.0));
     signatures::get_type_fullname(
@@ -69,7 +71,9 @@ fn render_candidate(
 ) -> Place
     requires { ⌜ Laid (now tables) (now layout) ⌝ }
     requires { ⌜ (1 < row .0) × (row .0 ≤ rowsAt (now layout) columns.typeName) × (i ≤ rowsAt (now layout) columns.implClass) ⌝ }
-    ensures { λ r. ⌜ Said (now (buf .entry)) 0 (now (buf .exit)) (candidate (now (tables .entry)) (now (layout .entry)) (now (strings .entry)) (now (blob .entry)) (row .0) i) (placeSays r) ⌝ }
+    ensures { λ r.
+        ⌜ Said (now (buf .entry)) 0 (now (buf .exit))
+        (candidate (now (tables .entry)) (now (layout .entry)) (now (strings .entry)) (now (blob .entry)) (row .0) i) (placeSays r) ⌝ }
 {
     if i == 0 {
         let place = wide(row.0) - 1;
@@ -113,7 +117,8 @@ pub fn count_bases(
 ) -> usize
     requires { ⌜ Laid (now tables) (now layout) ⌝ }
     requires { ⌜ (1 < row .0) × (row .0 ≤ rowsAt (now layout) columns.typeName) ⌝ }
-    ensures { λ r. ⌜ r ≡ length (baseTypes (viewIn (now (tables .entry)) (now (layout .entry)) (now (strings .entry)) (now (blob .entry))) (row .0 - 2)) ⌝ }
+    ensures { λ r. let v = viewIn (now (tables .entry)) (now (layout .entry)) (now (strings .entry)) (now (blob .entry)) in
+        ⌜ r ≡ length (baseTypes v (classOf row)) ⌝ }
 {
     let own = keys::key_rows(tables, layout, columns::IMPL_CLASS, wide(row.0));
     let first = own.first;
@@ -142,7 +147,8 @@ pub fn render_base(
 ) -> Place
     requires { ⌜ Laid (now tables) (now layout) ⌝ }
     requires { ⌜ (1 < row .0) × (row .0 ≤ rowsAt (now layout) columns.typeName) ⌝ }
-    ensures { λ r. ⌜ Said (now (buf .entry)) 0 (now (buf .exit)) (getElem? (baseTypes (viewIn (now (tables .entry)) (now (layout .entry)) (now (strings .entry)) (now (blob .entry))) (row .0 - 2)) nth) (placeSays r) ⌝ }
+    ensures { λ r. let v = viewIn (now (tables .entry)) (now (layout .entry)) (now (strings .entry)) (now (blob .entry)) in
+        ⌜ Said (now (buf .entry)) 0 (now (buf .exit)) (getElem? (baseTypes v (classOf row)) nth) (placeSays r) ⌝ }
 {
     let own = keys::key_rows(tables, layout, columns::IMPL_CLASS, wide(row.0));
     let first = own.first;

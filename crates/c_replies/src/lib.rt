@@ -44,6 +44,14 @@ pub fn reply_of(reply: Reply) -> DnReply
     }
 }
 
+// The kind at which a walk was left.
+pub fn stop_of(walk: Extents) -> DnReply
+    ensures { λ r. ⌜ r ≡ told (walkSays walk .stop) ⌝ }
+{
+    let answer = walk.answer;
+    reply_of(answer)
+}
+
 // A lookup that finds nothing.
 pub fn no_part() -> DnPart
     ensures { λ r. ⌜ r ≡ noPart ⌝ }

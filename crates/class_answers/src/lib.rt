@@ -15,7 +15,8 @@ ghost use Rattle.rows.specs.Layout.{Laid, viewIn};
 // The flags of a class (II.23.1.15).
 pub fn class_flags_of(tables: &[u8], layout: &Layout, class: ClassNumber) -> Reply
     requires { ⌜ Laid (now tables) (now layout) ⌝ }
-    ensures { λ r. ⌜ ((strings blob : List ℕ) → Numbered (classFlags (viewIn (now (tables .entry)) (now (layout .entry)) strings blob) (class .0)) r) ⌝ }
+    ensures { λ r.
+        ⌜ ((strings blob : List ℕ) → Numbered (classFlags (viewIn (now (tables .entry)) (now (layout .entry)) strings blob) (class .0)) r) ⌝ }
 {
     match listed::class_row(layout, class) {
         ClassRow::Row(row) => {
@@ -36,7 +37,9 @@ pub fn write_class_name(
     class: ClassNumber,
 ) -> Reply
     requires { ⌜ Laid (now tables) (now layout) ⌝ }
-    ensures { λ r. ⌜ ((blob : List ℕ) → Named (className (viewIn (now (tables .entry)) (now (layout .entry)) (now (strings .entry)) blob) (class .0)) (now (buf .entry)) r (now (buf .exit))) ⌝ }
+    ensures { λ r.
+        ⌜ ((blob : List ℕ) → Named (className (viewIn (now (tables .entry)) (now (layout .entry)) (now (strings .entry)) blob) (class .0))
+        (now (buf .entry)) r (now (buf .exit))) ⌝ }
 {
     match listed::class_row(layout, class) {
         ClassRow::Row(row) => {
@@ -52,7 +55,8 @@ pub fn write_class_name(
 // How many generic parameters a class has (II.22.20).
 pub fn count_generics_of(tables: &[u8], layout: &Layout, class: ClassNumber) -> Reply
     requires { ⌜ Laid (now tables) (now layout) ⌝ }
-    ensures { λ r. ⌜ ((strings blob : List ℕ) → Numbered (genericCount (viewIn (now (tables .entry)) (now (layout .entry)) strings blob) (class .0)) r) ⌝ }
+    ensures { λ r.
+        ⌜ ((strings blob : List ℕ) → Numbered (genericCount (viewIn (now (tables .entry)) (now (layout .entry)) strings blob) (class .0)) r) ⌝ }
 {
     match listed::class_row(layout, class) {
         ClassRow::Row(row) => {
@@ -72,7 +76,9 @@ pub fn write_generic_name(
     g: u32,
 ) -> Reply
     requires { ⌜ Laid (now tables) (now layout) ⌝ }
-    ensures { λ r. ⌜ ((blob : List ℕ) → Named (genericName (viewIn (now (tables .entry)) (now (layout .entry)) (now (strings .entry)) blob) (class .0) g) (now (buf .entry)) r (now (buf .exit))) ⌝ }
+    ensures { λ r.
+        ⌜ ((blob : List ℕ) → Named (genericName (viewIn (now (tables .entry)) (now (layout .entry)) (now (strings .entry)) blob) (class .0) g)
+        (now (buf .entry)) r (now (buf .exit))) ⌝ }
 {
     match listed::class_row(layout, class) {
         ClassRow::Row(row) => {
@@ -92,7 +98,8 @@ pub fn count_bases_of(
     class: ClassNumber,
 ) -> Reply
     requires { ⌜ Laid (now tables) (now layout) ⌝ }
-    ensures { λ r. ⌜ Numbered (baseCount (viewIn (now (tables .entry)) (now (layout .entry)) (now (strings .entry)) (now (blob .entry))) (class .0)) r ⌝ }
+    ensures { λ r. let v = viewIn (now (tables .entry)) (now (layout .entry)) (now (strings .entry)) (now (blob .entry)) in
+        ⌜ Numbered (baseCount v (class .0)) r ⌝ }
 {
     match listed::class_row(layout, class) {
         ClassRow::Row(row) => Reply::Is(bases::count_bases(tables, strings, blob, layout, row)),
@@ -111,7 +118,8 @@ pub fn write_base_name(
     b: u32,
 ) -> Reply
     requires { ⌜ Laid (now tables) (now layout) ⌝ }
-    ensures { λ r. ⌜ Named (baseName (viewIn (now (tables .entry)) (now (layout .entry)) (now (strings .entry)) (now (blob .entry))) (class .0) b) (now (buf .entry)) r (now (buf .exit)) ⌝ }
+    ensures { λ r. let v = viewIn (now (tables .entry)) (now (layout .entry)) (now (strings .entry)) (now (blob .entry)) in
+        ⌜ Named (baseName v (class .0) b) (now (buf .entry)) r (now (buf .exit)) ⌝ }
 {
     match listed::class_row(layout, class) {
         ClassRow::Row(row) => {

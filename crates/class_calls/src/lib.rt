@@ -50,7 +50,8 @@ pub fn class_name(
     class: ClassNumber,
     buf: &mut [u8],
 ) -> Reply
-    ensures { λ r. ⌜ Named (className (view options (now (tables .entry)) (now (strings .entry)) (now (blob .entry))) (class .0)) (now (buf .entry)) r (now (buf .exit)) ⌝ }
+    ensures { λ r. let v = view options (now (tables .entry)) (now (strings .entry)) (now (blob .entry)) in
+        ⌜ Named (className v (class .0)) (now (buf .entry)) r (now (buf .exit)) ⌝ }
 {
     let opened = opening::open(tables, options);
     let answer = opened.answer;

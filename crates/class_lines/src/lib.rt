@@ -47,7 +47,8 @@ pub fn stop_line(
     out: &mut [u8],
     at: usize,
 ) -> Step
-    ensures { λ r. ⌜ ((c m i : ℕ) → Stepped (view options (now (tables .entry)) (now (strings .entry)) (now (blob .entry))) (cursor Stop c m i) (now (out .entry)) at (now (out .exit)) r) ⌝ }
+    ensures { λ r. let v = view options (now (tables .entry)) (now (strings .entry)) (now (blob .entry)) in
+        ⌜ ((c m i : ℕ) → Stepped v (cursor Stop c m i) (now (out .entry)) at (now (out .exit)) r) ⌝ }
 {
     let walk = walks::walk_with(tables, options);
     let answer = walk.answer;
@@ -64,7 +65,8 @@ pub fn classes_line(
     at: usize,
 ) -> Step
     requires { ⌜ Laid (now tables) (now layout) ⌝ }
-    ensures { λ r. ⌜ ((c m i : ℕ) → Stepped (viewIn (now (tables .entry)) (now (layout .entry)) (now (strings .entry)) (now (blob .entry))) (cursor Classes c m i) (now (out .entry)) at (now (out .exit)) r) ⌝ }
+    ensures { λ r. let v = viewIn (now (tables .entry)) (now (layout .entry)) (now (strings .entry)) (now (blob .entry)) in
+        ⌜ ((c m i : ℕ) → Stepped v (cursor Classes c m i) (now (out .entry)) at (now (out .exit)) r) ⌝ }
 {
     let reply = Reply::Is(listed::count_classes(layout));
     lines::number_step(
@@ -87,7 +89,8 @@ pub fn class_line(
     at: usize,
 ) -> Step
     requires { ⌜ Laid (now tables) (now layout) ⌝ }
-    ensures { λ r. ⌜ ((m i : ℕ) → Stepped (viewIn (now (tables .entry)) (now (layout .entry)) (now (strings .entry)) (now (blob .entry))) (cursor Class (class .0) m i) (now (out .entry)) at (now (out .exit)) r) ⌝ }
+    ensures { λ r. let v = viewIn (now (tables .entry)) (now (layout .entry)) (now (strings .entry)) (now (blob .entry)) in
+        ⌜ ((m i : ℕ) → Stepped v (cursor Class (class .0) m i) (now (out .entry)) at (now (out .exit)) r) ⌝ }
 {
     let mut name = [0u8; LONGEST];
     let reply = write_class_name(&mut name, tables, strings, layout, class);
@@ -107,7 +110,8 @@ pub fn flags_line(
     at: usize,
 ) -> Step
     requires { ⌜ Laid (now tables) (now layout) ⌝ }
-    ensures { λ r. ⌜ ((m i : ℕ) → Stepped (viewIn (now (tables .entry)) (now (layout .entry)) (now (strings .entry)) (now (blob .entry))) (cursor Flags (class .0) m i) (now (out .entry)) at (now (out .exit)) r) ⌝ }
+    ensures { λ r. let v = viewIn (now (tables .entry)) (now (layout .entry)) (now (strings .entry)) (now (blob .entry)) in
+        ⌜ ((m i : ℕ) → Stepped v (cursor Flags (class .0) m i) (now (out .entry)) at (now (out .exit)) r) ⌝ }
 {
     let reply = class_flags_of(tables, layout, class);
     lines::number_step(
@@ -131,7 +135,8 @@ pub fn generic_line(
     at: usize,
 ) -> Step
     requires { ⌜ Laid (now tables) (now layout) ⌝ }
-    ensures { λ r. ⌜ ((m : ℕ) → Stepped (viewIn (now (tables .entry)) (now (layout .entry)) (now (strings .entry)) (now (blob .entry))) (cursor Generic (class .0) m i) (now (out .entry)) at (now (out .exit)) r) ⌝ }
+    ensures { λ r. let v = viewIn (now (tables .entry)) (now (layout .entry)) (now (strings .entry)) (now (blob .entry)) in
+        ⌜ ((m : ℕ) → Stepped v (cursor Generic (class .0) m i) (now (out .entry)) at (now (out .exit)) r) ⌝ }
 {
     let mut name = [0u8; LONGEST];
     let reply = write_generic_name(&mut name, tables, strings, layout, class, i);
@@ -152,7 +157,8 @@ pub fn base_line(
     at: usize,
 ) -> Step
     requires { ⌜ Laid (now tables) (now layout) ⌝ }
-    ensures { λ r. ⌜ ((m : ℕ) → Stepped (viewIn (now (tables .entry)) (now (layout .entry)) (now (strings .entry)) (now (blob .entry))) (cursor Base (class .0) m i) (now (out .entry)) at (now (out .exit)) r) ⌝ }
+    ensures { λ r. let v = viewIn (now (tables .entry)) (now (layout .entry)) (now (strings .entry)) (now (blob .entry)) in
+        ⌜ ((m : ℕ) → Stepped v (cursor Base (class .0) m i) (now (out .entry)) at (now (out .exit)) r) ⌝ }
 {
     let mut name = [0u8; LONGEST];
     let reply = write_base_name(&mut name, tables, strings, blob, layout, class, i);

@@ -10,7 +10,11 @@ use Rattle.classes.specs.declared.ClassNumber.{ClassNumber}
 unfoldable pub rowOf : ClassNumber → TypeDefRow
 rowOf c = cond (leb (c .0 + 2) 0xFFFF_FFFF) (record { 0 = c .0 + 2 }) (record { 0 = 0 })
 
--- It stands behind the first row, which is no class's, and c others.
+-- The class of a row from the second on.
+abbrev pub classOf : TypeDefRow → ℕ
+classOf r = r .0 - 2
+
+-- The row of class c stands behind the first one, which is no class's, and c others.
 abbrev pub placeOf : ClassNumber → ℕ
 placeOf c = c .0 + 1
 

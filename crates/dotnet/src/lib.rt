@@ -69,7 +69,8 @@ pub fn class_name(
     class: ClassNumber,
     buf: &mut [u8],
 ) -> Reply
-    ensures { λ r. ⌜ Named (className (view options (now (tables .entry)) (now (strings .entry)) (now (blob .entry))) (class .0)) (now (buf .entry)) r (now (buf .exit)) ⌝ }
+    ensures { λ r. let v = view options (now (tables .entry)) (now (strings .entry)) (now (blob .entry)) in
+        ⌜ Named (className v (class .0)) (now (buf .entry)) r (now (buf .exit)) ⌝ }
 {
     class_calls::class_name(tables, strings, blob, options, class, buf)
 }
@@ -82,7 +83,8 @@ pub fn generic_count(
     options: Options,
     class: ClassNumber,
 ) -> Reply
-    ensures { λ r. ⌜ Numbered (genericCount (view options (now (tables .entry)) (now (strings .entry)) (now (blob .entry))) (class .0)) r ⌝ }
+    ensures { λ r. let v = view options (now (tables .entry)) (now (strings .entry)) (now (blob .entry)) in
+        ⌜ Numbered (genericCount v (class .0)) r ⌝ }
 {
     generic_calls::generic_count(tables, strings, blob, options, class)
 }
@@ -97,7 +99,8 @@ pub fn generic_name(
     g: u32,
     buf: &mut [u8],
 ) -> Reply
-    ensures { λ r. ⌜ Named (genericName (view options (now (tables .entry)) (now (strings .entry)) (now (blob .entry))) (class .0) g) (now (buf .entry)) r (now (buf .exit)) ⌝ }
+    ensures { λ r. let v = view options (now (tables .entry)) (now (strings .entry)) (now (blob .entry)) in
+        ⌜ Named (genericName v (class .0) g) (now (buf .entry)) r (now (buf .exit)) ⌝ }
 {
     generic_calls::generic_name(tables, strings, blob, options, class, g, buf)
 }
@@ -125,7 +128,8 @@ pub fn base_name(
     b: u32,
     buf: &mut [u8],
 ) -> Reply
-    ensures { λ r. ⌜ Named (baseName (view options (now (tables .entry)) (now (strings .entry)) (now (blob .entry))) (class .0) b) (now (buf .entry)) r (now (buf .exit)) ⌝ }
+    ensures { λ r. let v = view options (now (tables .entry)) (now (strings .entry)) (now (blob .entry)) in
+        ⌜ Named (baseName v (class .0) b) (now (buf .entry)) r (now (buf .exit)) ⌝ }
 {
     base_calls::base_name(tables, strings, blob, options, class, b, buf)
 }
@@ -152,7 +156,8 @@ pub fn method_flags(
     class: ClassNumber,
     m: u32,
 ) -> Reply
-    ensures { λ r. ⌜ Numbered (methodFlags (view options (now (tables .entry)) (now (strings .entry)) (now (blob .entry))) (class .0) m) r ⌝ }
+    ensures { λ r. let v = view options (now (tables .entry)) (now (strings .entry)) (now (blob .entry)) in
+        ⌜ Numbered (methodFlags v (class .0) m) r ⌝ }
 {
     method_calls::method_flags(tables, strings, blob, options, class, m)
 }
@@ -167,7 +172,8 @@ pub fn method_name(
     m: u32,
     buf: &mut [u8],
 ) -> Reply
-    ensures { λ r. ⌜ Named (methodName (view options (now (tables .entry)) (now (strings .entry)) (now (blob .entry))) (class .0) m) (now (buf .entry)) r (now (buf .exit)) ⌝ }
+    ensures { λ r. let v = view options (now (tables .entry)) (now (strings .entry)) (now (blob .entry)) in
+        ⌜ Named (methodName v (class .0) m) (now (buf .entry)) r (now (buf .exit)) ⌝ }
 {
     method_calls::method_name(tables, strings, blob, options, class, m, buf)
 }
@@ -181,7 +187,8 @@ pub fn method_generic_count(
     class: ClassNumber,
     m: u32,
 ) -> Reply
-    ensures { λ r. ⌜ Numbered (methodGenericCount (view options (now (tables .entry)) (now (strings .entry)) (now (blob .entry))) (class .0) m) r ⌝ }
+    ensures { λ r. let v = view options (now (tables .entry)) (now (strings .entry)) (now (blob .entry)) in
+        ⌜ Numbered (methodGenericCount v (class .0) m) r ⌝ }
 {
     method_generic_calls::method_generic_count(tables, strings, blob, options, class, m)
 }
@@ -197,7 +204,8 @@ pub fn method_generic_name(
     g: u32,
     buf: &mut [u8],
 ) -> Reply
-    ensures { λ r. ⌜ Named (methodGenericName (view options (now (tables .entry)) (now (strings .entry)) (now (blob .entry))) (class .0) m g) (now (buf .entry)) r (now (buf .exit)) ⌝ }
+    ensures { λ r. let v = view options (now (tables .entry)) (now (strings .entry)) (now (blob .entry)) in
+        ⌜ Named (methodGenericName v (class .0) m g) (now (buf .entry)) r (now (buf .exit)) ⌝ }
 {
     method_generic_calls::method_generic_name(tables, strings, blob, options, class, m, g, buf)
 }
@@ -212,7 +220,8 @@ pub fn return_type(
     m: u32,
     buf: &mut [u8],
 ) -> Reply
-    ensures { λ r. ⌜ Named (returnType (view options (now (tables .entry)) (now (strings .entry)) (now (blob .entry))) (class .0) m) (now (buf .entry)) r (now (buf .exit)) ⌝ }
+    ensures { λ r. let v = view options (now (tables .entry)) (now (strings .entry)) (now (blob .entry)) in
+        ⌜ Named (returnType v (class .0) m) (now (buf .entry)) r (now (buf .exit)) ⌝ }
 {
     signature_calls::return_type(tables, strings, blob, options, class, m, buf)
 }
@@ -226,7 +235,8 @@ pub fn param_count(
     class: ClassNumber,
     m: u32,
 ) -> Reply
-    ensures { λ r. ⌜ Numbered (parameterCount (view options (now (tables .entry)) (now (strings .entry)) (now (blob .entry))) (class .0) m) r ⌝ }
+    ensures { λ r. let v = view options (now (tables .entry)) (now (strings .entry)) (now (blob .entry)) in
+        ⌜ Numbered (parameterCount v (class .0) m) r ⌝ }
 {
     signature_calls::param_count(tables, strings, blob, options, class, m)
 }
@@ -242,7 +252,8 @@ pub fn param_type(
     p: u32,
     buf: &mut [u8],
 ) -> Reply
-    ensures { λ r. ⌜ Named (parameterType (view options (now (tables .entry)) (now (strings .entry)) (now (blob .entry))) (class .0) m p) (now (buf .entry)) r (now (buf .exit)) ⌝ }
+    ensures { λ r. let v = view options (now (tables .entry)) (now (strings .entry)) (now (blob .entry)) in
+        ⌜ Named (parameterType v (class .0) m p) (now (buf .entry)) r (now (buf .exit)) ⌝ }
 {
     signature_calls::param_type(tables, strings, blob, options, class, m, p, buf)
 }
@@ -258,7 +269,8 @@ pub fn param_name(
     p: u32,
     buf: &mut [u8],
 ) -> Reply
-    ensures { λ r. ⌜ Named (parameterName (view options (now (tables .entry)) (now (strings .entry)) (now (blob .entry))) (class .0) m p) (now (buf .entry)) r (now (buf .exit)) ⌝ }
+    ensures { λ r. let v = view options (now (tables .entry)) (now (strings .entry)) (now (blob .entry)) in
+        ⌜ Named (parameterName v (class .0) m p) (now (buf .entry)) r (now (buf .exit)) ⌝ }
 {
     signature_calls::param_name(tables, strings, blob, options, class, m, p, buf)
 }

@@ -17,9 +17,7 @@ ghost use Rattle.c_replies.specs.Told.{told, ToldName, toldLookup, toldExtent};
 pub extern "C" fn dn_walk_stop(tables: &[u8]) -> DnReply
     ensures { λ r. ⌜ r ≡ told (walkOf base (now (tables .entry)) .stop) ⌝ }
 {
-    let walk = dotnet::walk(tables);
-    let answer = walk.answer;
-    c_replies::reply_of(answer)
+    c_replies::stop_of(dotnet::walk(tables))
 }
 
 // Where the table of a kind begins, its row size and its whole rows.
@@ -75,7 +73,8 @@ pub extern "C" fn dn_class_name(
     class: u32,
     buf: &mut [u8],
 ) -> DnReply
-    ensures { λ r. ⌜ ToldName (className (view base (now (tables .entry)) (now (strings .entry)) (now (blob .entry))) class) (now (buf .entry)) r (now (buf .exit)) ⌝ }
+    ensures { λ r. let v = view base (now (tables .entry)) (now (strings .entry)) (now (blob .entry)) in
+        ⌜ ToldName (className v class) (now (buf .entry)) r (now (buf .exit)) ⌝ }
 {
     c_replies::reply_of(dotnet::class_name(
         tables,
@@ -116,7 +115,8 @@ pub extern "C" fn dn_generic_name(
     g: u32,
     buf: &mut [u8],
 ) -> DnReply
-    ensures { λ r. ⌜ ToldName (genericName (view base (now (tables .entry)) (now (strings .entry)) (now (blob .entry))) class g) (now (buf .entry)) r (now (buf .exit)) ⌝ }
+    ensures { λ r. let v = view base (now (tables .entry)) (now (strings .entry)) (now (blob .entry)) in
+        ⌜ ToldName (genericName v class g) (now (buf .entry)) r (now (buf .exit)) ⌝ }
 {
     c_replies::reply_of(dotnet::generic_name(
         tables,
@@ -153,7 +153,8 @@ pub extern "C" fn dn_base_name(
     b: u32,
     buf: &mut [u8],
 ) -> DnReply
-    ensures { λ r. ⌜ ToldName (baseName (view base (now (tables .entry)) (now (strings .entry)) (now (blob .entry))) class b) (now (buf .entry)) r (now (buf .exit)) ⌝ }
+    ensures { λ r. let v = view base (now (tables .entry)) (now (strings .entry)) (now (blob .entry)) in
+        ⌜ ToldName (baseName v class b) (now (buf .entry)) r (now (buf .exit)) ⌝ }
 {
     c_replies::reply_of(dotnet::base_name(
         tables,
@@ -211,7 +212,8 @@ pub extern "C" fn dn_method_name(
     m: u32,
     buf: &mut [u8],
 ) -> DnReply
-    ensures { λ r. ⌜ ToldName (methodName (view base (now (tables .entry)) (now (strings .entry)) (now (blob .entry))) class m) (now (buf .entry)) r (now (buf .exit)) ⌝ }
+    ensures { λ r. let v = view base (now (tables .entry)) (now (strings .entry)) (now (blob .entry)) in
+        ⌜ ToldName (methodName v class m) (now (buf .entry)) r (now (buf .exit)) ⌝ }
 {
     c_replies::reply_of(dotnet::method_name(
         tables,
@@ -256,7 +258,8 @@ pub extern "C" fn dn_method_generic_name(
     g: u32,
     buf: &mut [u8],
 ) -> DnReply
-    ensures { λ r. ⌜ ToldName (methodGenericName (view base (now (tables .entry)) (now (strings .entry)) (now (blob .entry))) class m g) (now (buf .entry)) r (now (buf .exit)) ⌝ }
+    ensures { λ r. let v = view base (now (tables .entry)) (now (strings .entry)) (now (blob .entry)) in
+        ⌜ ToldName (methodGenericName v class m g) (now (buf .entry)) r (now (buf .exit)) ⌝ }
 {
     c_replies::reply_of(dotnet::method_generic_name(
         tables,
@@ -280,7 +283,8 @@ pub extern "C" fn dn_return_type(
     m: u32,
     buf: &mut [u8],
 ) -> DnReply
-    ensures { λ r. ⌜ ToldName (returnType (view base (now (tables .entry)) (now (strings .entry)) (now (blob .entry))) class m) (now (buf .entry)) r (now (buf .exit)) ⌝ }
+    ensures { λ r. let v = view base (now (tables .entry)) (now (strings .entry)) (now (blob .entry)) in
+        ⌜ ToldName (returnType v class m) (now (buf .entry)) r (now (buf .exit)) ⌝ }
 {
     c_replies::reply_of(dotnet::return_type(
         tables,
@@ -325,7 +329,8 @@ pub extern "C" fn dn_param_type(
     p: u32,
     buf: &mut [u8],
 ) -> DnReply
-    ensures { λ r. ⌜ ToldName (parameterType (view base (now (tables .entry)) (now (strings .entry)) (now (blob .entry))) class m p) (now (buf .entry)) r (now (buf .exit)) ⌝ }
+    ensures { λ r. let v = view base (now (tables .entry)) (now (strings .entry)) (now (blob .entry)) in
+        ⌜ ToldName (parameterType v class m p) (now (buf .entry)) r (now (buf .exit)) ⌝ }
 {
     c_replies::reply_of(dotnet::param_type(
         tables,
@@ -350,7 +355,8 @@ pub extern "C" fn dn_param_name(
     p: u32,
     buf: &mut [u8],
 ) -> DnReply
-    ensures { λ r. ⌜ ToldName (parameterName (view base (now (tables .entry)) (now (strings .entry)) (now (blob .entry))) class m p) (now (buf .entry)) r (now (buf .exit)) ⌝ }
+    ensures { λ r. let v = view base (now (tables .entry)) (now (strings .entry)) (now (blob .entry)) in
+        ⌜ ToldName (parameterName v class m p) (now (buf .entry)) r (now (buf .exit)) ⌝ }
 {
     c_replies::reply_of(dotnet::param_name(
         tables,

@@ -91,7 +91,9 @@ pub fn ascend(
     used: usize,
 ) -> Ascent
     requires { ⌜ (at ≤ length (now buf) + 1) × (used ≤ length (now frames)) ⌝ }
-    ensures { λ r. ⌜ Ascends (now (sig .entry)) pos (stack (now (frames .entry)) used) used (now (buf .entry)) at (now (buf .exit)) (now (frames .exit)) r ⌝ }
+    ensures { λ r.
+        ⌜ Ascends (now (sig .entry)) pos (stack (now (frames .entry)) used) used (now (buf .entry)) at (now (buf .exit))
+        (now (frames .exit)) r ⌝ }
 {
     let mut k = at;
     let mut p = pos;

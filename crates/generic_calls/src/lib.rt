@@ -17,7 +17,8 @@ pub fn generic_count(
     options: Options,
     class: ClassNumber,
 ) -> Reply
-    ensures { λ r. ⌜ Numbered (genericCount (view options (now (tables .entry)) (now (strings .entry)) (now (blob .entry))) (class .0)) r ⌝ }
+    ensures { λ r. let v = view options (now (tables .entry)) (now (strings .entry)) (now (blob .entry)) in
+        ⌜ Numbered (genericCount v (class .0)) r ⌝ }
 {
     let opened = opening::open(tables, options);
     let answer = opened.answer;
@@ -38,7 +39,8 @@ pub fn generic_name(
     g: u32,
     buf: &mut [u8],
 ) -> Reply
-    ensures { λ r. ⌜ Named (genericName (view options (now (tables .entry)) (now (strings .entry)) (now (blob .entry))) (class .0) g) (now (buf .entry)) r (now (buf .exit)) ⌝ }
+    ensures { λ r. let v = view options (now (tables .entry)) (now (strings .entry)) (now (blob .entry)) in
+        ⌜ Named (genericName v (class .0) g) (now (buf .entry)) r (now (buf .exit)) ⌝ }
 {
     let opened = opening::open(tables, options);
     let answer = opened.answer;

@@ -41,7 +41,8 @@ pub fn count_below(tables: &[u8], layout: &rows::Layout, column: usize, key: usi
 pub fn key_rows(tables: &[u8], layout: &rows::Layout, column: usize, key: usize) -> Span
     requires { ⌜ Laid (now tables) (now layout) ⌝ }
     requires { ⌜ column < columns.count ⌝ }
-    ensures { λ r. ⌜ OnlyIn (cell (now (tables .entry)) (now (layout .entry)) column) key (rowsAt (now (layout .entry)) column) (r .first) (r .end) ⌝ }
+    ensures { λ r.
+        ⌜ OnlyIn (cell (now (tables .entry)) (now (layout .entry)) column) key (rowsAt (now (layout .entry)) column) (r .first) (r .end) ⌝ }
 {
     let all = rows::count_rows(layout, column);
     if !rows::is_marked(layout, column) {

@@ -142,7 +142,9 @@ fn push_missing(out: &mut [u8], at: usize, key: &[u8], n: u8) -> usize
 
 // The line of a name that a call with a buffer of 4,096 bytes was asked for, by the call's reply and the buffer after it.
 pub fn push_name(out: &mut [u8], at: usize, key: &[u8], reply: Reply, name: &[u8]) -> usize
-    ensures { λ r. ⌜ ((a : Answer Text) (b : List ℕ) → length b ≡ longest → Named a b reply (now (name .entry)) → Wrote (now (out .entry)) at (nameLine (now (key .entry)) a) (now (out .exit)) r) ⌝ }
+    ensures { λ r.
+        ⌜ ((a : Answer Text) (b : List ℕ) → length b ≡ longest → Named a b reply (now (name .entry)) → Wrote (now (out .entry)) at
+        (nameLine (now (key .entry)) a) (now (out .exit)) r) ⌝ }
 {
     match reply {
         Reply::Is(n) => push_line(out, at, key, numbers::cut(name, 0, n)),
@@ -173,7 +175,9 @@ pub fn name_step(
     more: Cursor,
     past: Cursor,
 ) -> Step
-    ensures { λ r. ⌜ ((a : Answer Text) (b : List ℕ) → length b ≡ longest → Named a b reply (now (name .entry)) → Went (nameLine (now (key .entry)) a) (cond (hasLine a) more past) (now (out .entry)) at (now (out .exit)) r) ⌝ }
+    ensures { λ r.
+        ⌜ ((a : Answer Text) (b : List ℕ) → length b ≡ longest → Named a b reply (now (name .entry)) → Went (nameLine (now (key .entry)) a)
+        (cond (hasLine a) more past) (now (out .entry)) at (now (out .exit)) r) ⌝ }
 {
     let end = push_name(out, at, key, reply, name);
     if has_line(reply) {

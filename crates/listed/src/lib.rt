@@ -88,7 +88,10 @@ pub fn write_generic(
     g: u32,
 ) -> Reply
     requires { ⌜ Laid (now tables) (now layout) ⌝ }
-    ensures { λ r. ⌜ ((blob : List ℕ) → Named (orNoRow (getElem? (viewIn (now (tables .entry)) (now (layout .entry)) (now (strings .entry)) blob .generics owner) g) ⟫ nameOr5) (now (buf .entry)) r (now (buf .exit))) ⌝ }
+    ensures { λ r.
+        ⌜ ((blob : List ℕ) → Named
+        (orNoRow (getElem? (viewIn (now (tables .entry)) (now (layout .entry)) (now (strings .entry)) blob .generics owner) g) ⟫ nameOr5)
+        (now (buf .entry)) r (now (buf .exit))) ⌝ }
 {
     match keys::find_key(tables, layout, columns::OWNER, owner, wide(g)) {
         Row::At(i) => rows::write_string(buf, tables, strings, layout, columns::GENERIC_NAME, i),

@@ -40,7 +40,7 @@ fn done_line(out: &mut [u8], at: usize) -> Step
 }
 
 // One step over an opened stream: the line at a cursor is appended, if it has one, and the next cursor handed out.
-pub fn next_line(
+fn next_line(
     tables: &[u8],
     strings: &[u8],
     blob: &[u8],
@@ -52,7 +52,8 @@ pub fn next_line(
 ) -> Step
     requires { ⌜ Laid (now tables) (now layout) ⌝ }
     requires { ⌜ ((s b : List ℕ) → viewIn (now tables) (now layout) s b ≡ view options (now tables) s b) ⌝ }
-    ensures { λ r. ⌜ Stepped (view options (now (tables .entry)) (now (strings .entry)) (now (blob .entry))) c (now (out .entry)) at (now (out .exit)) r ⌝ }
+    ensures { λ r. let v = view options (now (tables .entry)) (now (strings .entry)) (now (blob .entry)) in
+        ⌜ Stepped v c (now (out .entry)) at (now (out .exit)) r ⌝ }
 {
     let place = c.place;
     let class = c.class;
@@ -101,7 +102,8 @@ fn fill_opened(
 ) -> Step
     requires { ⌜ Laid (now tables) (now layout) ⌝ }
     requires { ⌜ ((s b : List ℕ) → viewIn (now tables) (now layout) s b ≡ view options (now tables) s b) ⌝ }
-    ensures { λ r. ⌜ Pieced (pieceOf (view options (now (tables .entry)) (now (strings .entry)) (now (blob .entry))) (length (now (out .entry))) from) (now (out .entry)) (now (out .exit)) r ⌝ }
+    ensures { λ r. let v = view options (now (tables .entry)) (now (strings .entry)) (now (blob .entry)) in
+        ⌜ Pieced (pieceOf v (length (now (out .entry))) from) (now (out .entry)) (now (out .exit)) r ⌝ }
 {
     let mut c = from;
     let mut at = 0;
@@ -124,7 +126,9 @@ fn fill_opened(
 
 // A stream that is refused has one line, at the first place.
 fn fill_refused(why: Refusal, from: Cursor, out: &mut [u8]) -> Step
-    ensures { λ r. ⌜ ((options : Opts) (tables strings blob : List ℕ) → opened options tables .answer ≡ Refused why → Pieced (pieceOf (view options tables strings blob) (length (now (out .entry))) from) (now (out .entry)) (now (out .exit)) r) ⌝ }
+    ensures { λ r.
+        ⌜ ((options : Opts) (tables strings blob : List ℕ) → opened options tables .answer ≡ Refused why → Pieced
+        (pieceOf (view options tables strings blob) (length (now (out .entry))) from) (now (out .entry)) (now (out .exit)) r) ⌝ }
 {
     let place = from.place;
     match place {
@@ -162,7 +166,8 @@ pub fn fill(
     from: Cursor,
     out: &mut [u8],
 ) -> Step
-    ensures { λ r. ⌜ Filled (pieceOf (view options (now (tables .entry)) (now (strings .entry)) (now (blob .entry))) (length (now (out .entry))) from) (now (out .entry)) (now (out .exit)) r ⌝ }
+    ensures { λ r. let v = view options (now (tables .entry)) (now (strings .entry)) (now (blob .entry)) in
+        ⌜ Filled (pieceOf v (length (now (out .entry))) from) (now (out .entry)) (now (out .exit)) r ⌝ }
 {
     let found = opening::open(tables, options);
     let answer = found.answer;

@@ -15,7 +15,8 @@ ghost use Rattle.rows.specs.Layout.{Laid, viewIn};
 // How many methods a class has (II.22.26).
 pub fn count_methods_of(tables: &[u8], layout: &Layout, class: ClassNumber) -> Reply
     requires { ⌜ Laid (now tables) (now layout) ⌝ }
-    ensures { λ r. ⌜ ((strings blob : List ℕ) → Numbered (methodCount (viewIn (now (tables .entry)) (now (layout .entry)) strings blob) (class .0)) r) ⌝ }
+    ensures { λ r.
+        ⌜ ((strings blob : List ℕ) → Numbered (methodCount (viewIn (now (tables .entry)) (now (layout .entry)) strings blob) (class .0)) r) ⌝ }
 {
     match listed::class_row(layout, class) {
         ClassRow::Row(row) => {
@@ -29,7 +30,8 @@ pub fn count_methods_of(tables: &[u8], layout: &Layout, class: ClassNumber) -> R
 // The flags of method m of a class (II.23.1.10).
 pub fn method_flags_of(tables: &[u8], layout: &Layout, class: ClassNumber, m: u32) -> Reply
     requires { ⌜ Laid (now tables) (now layout) ⌝ }
-    ensures { λ r. ⌜ ((strings blob : List ℕ) → Numbered (methodFlags (viewIn (now (tables .entry)) (now (layout .entry)) strings blob) (class .0) m) r) ⌝ }
+    ensures { λ r.
+        ⌜ ((strings blob : List ℕ) → Numbered (methodFlags (viewIn (now (tables .entry)) (now (layout .entry)) strings blob) (class .0) m) r) ⌝ }
 {
     match listed::method_row(tables, layout, class, m) {
         MethodRow::Row(i) => {
@@ -50,7 +52,9 @@ pub fn write_method_name(
     m: u32,
 ) -> Reply
     requires { ⌜ Laid (now tables) (now layout) ⌝ }
-    ensures { λ r. ⌜ ((blob : List ℕ) → Named (methodName (viewIn (now (tables .entry)) (now (layout .entry)) (now (strings .entry)) blob) (class .0) m) (now (buf .entry)) r (now (buf .exit))) ⌝ }
+    ensures { λ r.
+        ⌜ ((blob : List ℕ) → Named (methodName (viewIn (now (tables .entry)) (now (layout .entry)) (now (strings .entry)) blob) (class .0) m)
+        (now (buf .entry)) r (now (buf .exit))) ⌝ }
 {
     match listed::method_row(tables, layout, class, m) {
         MethodRow::Row(i) => {
@@ -63,7 +67,9 @@ pub fn write_method_name(
 // How many generic parameters method m of a class has (II.22.20).
 pub fn count_method_generics_of(tables: &[u8], layout: &Layout, class: ClassNumber, m: u32) -> Reply
     requires { ⌜ Laid (now tables) (now layout) ⌝ }
-    ensures { λ r. ⌜ ((strings blob : List ℕ) → Numbered (methodGenericCount (viewIn (now (tables .entry)) (now (layout .entry)) strings blob) (class .0) m) r) ⌝ }
+    ensures { λ r.
+        ⌜ ((strings blob : List ℕ) → Numbered
+        (methodGenericCount (viewIn (now (tables .entry)) (now (layout .entry)) strings blob) (class .0) m) r) ⌝ }
 {
     match listed::method_row(tables, layout, class, m) {
         MethodRow::Row(i) => { Reply::Is(listed::count_generics(tables, layout, 2 * (i + 1) + 1)) }
@@ -82,7 +88,10 @@ pub fn write_method_generic_name(
     g: u32,
 ) -> Reply
     requires { ⌜ Laid (now tables) (now layout) ⌝ }
-    ensures { λ r. ⌜ ((blob : List ℕ) → Named (methodGenericName (viewIn (now (tables .entry)) (now (layout .entry)) (now (strings .entry)) blob) (class .0) m g) (now (buf .entry)) r (now (buf .exit))) ⌝ }
+    ensures { λ r.
+        ⌜ ((blob : List ℕ) → Named
+        (methodGenericName (viewIn (now (tables .entry)) (now (layout .entry)) (now (strings .entry)) blob) (class .0) m g)
+        (now (buf .entry)) r (now (buf .exit))) ⌝ }
 {
     match listed::method_row(tables, layout, class, m) {
         MethodRow::Row(i) => {
@@ -104,7 +113,8 @@ pub fn write_return_type_of(
     m: u32,
 ) -> Reply
     requires { ⌜ Laid (now tables) (now layout) ⌝ }
-    ensures { λ r. ⌜ Named (returnType (viewIn (now (tables .entry)) (now (layout .entry)) (now (strings .entry)) (now (blob .entry))) (class .0) m) (now (buf .entry)) r (now (buf .exit)) ⌝ }
+    ensures { λ r. let v = viewIn (now (tables .entry)) (now (layout .entry)) (now (strings .entry)) (now (blob .entry)) in
+        ⌜ Named (returnType v (class .0) m) (now (buf .entry)) r (now (buf .exit)) ⌝ }
 {
     match listed::method_row(tables, layout, class, m) {
         MethodRow::Row(i) => method_signatures::write_return_type(
@@ -129,7 +139,8 @@ pub fn count_params_of(
     m: u32,
 ) -> Reply
     requires { ⌜ Laid (now tables) (now layout) ⌝ }
-    ensures { λ r. ⌜ Numbered (parameterCount (viewIn (now (tables .entry)) (now (layout .entry)) (now (strings .entry)) (now (blob .entry))) (class .0) m) r ⌝ }
+    ensures { λ r. let v = viewIn (now (tables .entry)) (now (layout .entry)) (now (strings .entry)) (now (blob .entry)) in
+        ⌜ Numbered (parameterCount v (class .0) m) r ⌝ }
 {
     match listed::method_row(tables, layout, class, m) {
         MethodRow::Row(i) => Reply::Is(method_signatures::count_params(
@@ -155,7 +166,8 @@ pub fn write_param_type_of(
     p: u32,
 ) -> Reply
     requires { ⌜ Laid (now tables) (now layout) ⌝ }
-    ensures { λ r. ⌜ Named (parameterType (viewIn (now (tables .entry)) (now (layout .entry)) (now (strings .entry)) (now (blob .entry))) (class .0) m p) (now (buf .entry)) r (now (buf .exit)) ⌝ }
+    ensures { λ r. let v = viewIn (now (tables .entry)) (now (layout .entry)) (now (strings .entry)) (now (blob .entry)) in
+        ⌜ Named (parameterType v (class .0) m p) (now (buf .entry)) r (now (buf .exit)) ⌝ }
 {
     match listed::method_row(tables, layout, class, m) {
         MethodRow::Row(i) => method_signatures::write_param_type(
@@ -183,7 +195,8 @@ pub fn write_param_name_of(
     p: u32,
 ) -> Reply
     requires { ⌜ Laid (now tables) (now layout) ⌝ }
-    ensures { λ r. ⌜ Named (parameterName (viewIn (now (tables .entry)) (now (layout .entry)) (now (strings .entry)) (now (blob .entry))) (class .0) m p) (now (buf .entry)) r (now (buf .exit)) ⌝ }
+    ensures { λ r. let v = viewIn (now (tables .entry)) (now (layout .entry)) (now (strings .entry)) (now (blob .entry)) in
+        ⌜ Named (parameterName v (class .0) m p) (now (buf .entry)) r (now (buf .exit)) ⌝ }
 {
     match listed::method_row(tables, layout, class, m) {
         MethodRow::Row(i) => method_signatures::write_param_name(

@@ -38,7 +38,8 @@ pub fn method_flags(
     class: ClassNumber,
     m: u32,
 ) -> Reply
-    ensures { λ r. ⌜ Numbered (methodFlags (view options (now (tables .entry)) (now (strings .entry)) (now (blob .entry))) (class .0) m) r ⌝ }
+    ensures { λ r. let v = view options (now (tables .entry)) (now (strings .entry)) (now (blob .entry)) in
+        ⌜ Numbered (methodFlags v (class .0) m) r ⌝ }
 {
     let opened = opening::open(tables, options);
     let answer = opened.answer;
@@ -59,7 +60,8 @@ pub fn method_name(
     m: u32,
     buf: &mut [u8],
 ) -> Reply
-    ensures { λ r. ⌜ Named (methodName (view options (now (tables .entry)) (now (strings .entry)) (now (blob .entry))) (class .0) m) (now (buf .entry)) r (now (buf .exit)) ⌝ }
+    ensures { λ r. let v = view options (now (tables .entry)) (now (strings .entry)) (now (blob .entry)) in
+        ⌜ Named (methodName v (class .0) m) (now (buf .entry)) r (now (buf .exit)) ⌝ }
 {
     let opened = opening::open(tables, options);
     let answer = opened.answer;

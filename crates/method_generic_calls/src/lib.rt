@@ -18,7 +18,8 @@ pub fn method_generic_count(
     class: ClassNumber,
     m: u32,
 ) -> Reply
-    ensures { λ r. ⌜ Numbered (methodGenericCount (view options (now (tables .entry)) (now (strings .entry)) (now (blob .entry))) (class .0) m) r ⌝ }
+    ensures { λ r. let v = view options (now (tables .entry)) (now (strings .entry)) (now (blob .entry)) in
+        ⌜ Numbered (methodGenericCount v (class .0) m) r ⌝ }
 {
     let opened = opening::open(tables, options);
     let answer = opened.answer;
@@ -40,7 +41,8 @@ pub fn method_generic_name(
     g: u32,
     buf: &mut [u8],
 ) -> Reply
-    ensures { λ r. ⌜ Named (methodGenericName (view options (now (tables .entry)) (now (strings .entry)) (now (blob .entry))) (class .0) m g) (now (buf .entry)) r (now (buf .exit)) ⌝ }
+    ensures { λ r. let v = view options (now (tables .entry)) (now (strings .entry)) (now (blob .entry)) in
+        ⌜ Named (methodGenericName v (class .0) m g) (now (buf .entry)) r (now (buf .exit)) ⌝ }
 {
     let opened = opening::open(tables, options);
     let answer = opened.answer;

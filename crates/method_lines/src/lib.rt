@@ -31,7 +31,8 @@ pub fn method_line(
     at: usize,
 ) -> Step
     requires { ⌜ Laid (now tables) (now layout) ⌝ }
-    ensures { λ r. ⌜ ((i : ℕ) → Stepped (viewIn (now (tables .entry)) (now (layout .entry)) (now (strings .entry)) (now (blob .entry))) (cursor Method (class .0) m i) (now (out .entry)) at (now (out .exit)) r) ⌝ }
+    ensures { λ r. let v = viewIn (now (tables .entry)) (now (layout .entry)) (now (strings .entry)) (now (blob .entry)) in
+        ⌜ ((i : ℕ) → Stepped v (cursor Method (class .0) m i) (now (out .entry)) at (now (out .exit)) r) ⌝ }
 {
     let mut name = [0u8; LONGEST];
     let reply = write_method_name(&mut name, tables, strings, layout, class, m);
@@ -52,7 +53,8 @@ pub fn method_flags_line(
     at: usize,
 ) -> Step
     requires { ⌜ Laid (now tables) (now layout) ⌝ }
-    ensures { λ r. ⌜ ((i : ℕ) → Stepped (viewIn (now (tables .entry)) (now (layout .entry)) (now (strings .entry)) (now (blob .entry))) (cursor MethodFlags (class .0) m i) (now (out .entry)) at (now (out .exit)) r) ⌝ }
+    ensures { λ r. let v = viewIn (now (tables .entry)) (now (layout .entry)) (now (strings .entry)) (now (blob .entry)) in
+        ⌜ ((i : ℕ) → Stepped v (cursor MethodFlags (class .0) m i) (now (out .entry)) at (now (out .exit)) r) ⌝ }
 {
     let reply = method_flags_of(tables, layout, class, m);
     lines::number_step(
@@ -77,7 +79,8 @@ pub fn method_generic_line(
     at: usize,
 ) -> Step
     requires { ⌜ Laid (now tables) (now layout) ⌝ }
-    ensures { λ r. ⌜ Stepped (viewIn (now (tables .entry)) (now (layout .entry)) (now (strings .entry)) (now (blob .entry))) (cursor MethodGeneric (class .0) m i) (now (out .entry)) at (now (out .exit)) r ⌝ }
+    ensures { λ r. let v = viewIn (now (tables .entry)) (now (layout .entry)) (now (strings .entry)) (now (blob .entry)) in
+        ⌜ Stepped v (cursor MethodGeneric (class .0) m i) (now (out .entry)) at (now (out .exit)) r ⌝ }
 {
     let mut name = [0u8; LONGEST];
     let reply = write_method_generic_name(&mut name, tables, strings, layout, class, m, i);
@@ -98,7 +101,8 @@ pub fn returns_line(
     at: usize,
 ) -> Step
     requires { ⌜ Laid (now tables) (now layout) ⌝ }
-    ensures { λ r. ⌜ ((i : ℕ) → Stepped (viewIn (now (tables .entry)) (now (layout .entry)) (now (strings .entry)) (now (blob .entry))) (cursor Returns (class .0) m i) (now (out .entry)) at (now (out .exit)) r) ⌝ }
+    ensures { λ r. let v = viewIn (now (tables .entry)) (now (layout .entry)) (now (strings .entry)) (now (blob .entry)) in
+        ⌜ ((i : ℕ) → Stepped v (cursor Returns (class .0) m i) (now (out .entry)) at (now (out .exit)) r) ⌝ }
 {
     let mut name = [0u8; LONGEST];
     let reply = write_return_type_of(&mut name, tables, strings, blob, layout, class, m);
@@ -122,7 +126,8 @@ pub fn param_type_line(
     at: usize,
 ) -> Step
     requires { ⌜ Laid (now tables) (now layout) ⌝ }
-    ensures { λ r. ⌜ Stepped (viewIn (now (tables .entry)) (now (layout .entry)) (now (strings .entry)) (now (blob .entry))) (cursor ParamType (class .0) m i) (now (out .entry)) at (now (out .exit)) r ⌝ }
+    ensures { λ r. let v = viewIn (now (tables .entry)) (now (layout .entry)) (now (strings .entry)) (now (blob .entry)) in
+        ⌜ Stepped v (cursor ParamType (class .0) m i) (now (out .entry)) at (now (out .exit)) r ⌝ }
 {
     let mut name = [0u8; LONGEST];
     let reply = write_param_type_of(&mut name, tables, strings, blob, layout, class, m, i);
@@ -144,7 +149,8 @@ pub fn param_name_line(
     at: usize,
 ) -> Step
     requires { ⌜ Laid (now tables) (now layout) ⌝ }
-    ensures { λ r. ⌜ Stepped (viewIn (now (tables .entry)) (now (layout .entry)) (now (strings .entry)) (now (blob .entry))) (cursor ParamName (class .0) m i) (now (out .entry)) at (now (out .exit)) r ⌝ }
+    ensures { λ r. let v = viewIn (now (tables .entry)) (now (layout .entry)) (now (strings .entry)) (now (blob .entry)) in
+        ⌜ Stepped v (cursor ParamName (class .0) m i) (now (out .entry)) at (now (out .exit)) r ⌝ }
 {
     let mut name = [0u8; LONGEST];
     let reply = write_param_name_of(&mut name, tables, strings, blob, layout, class, m, i);

@@ -61,7 +61,8 @@ fn read_by(
 ) -> Reading
     requires { ⌜ Laid (now tables) (now layout) ⌝ }
     requires { ⌜ m < rowsAt (now layout) columns.methodSignature ⌝ }
-    ensures { λ r. ⌜ ReadingIs (viewIn (now (tables .entry)) (now (layout .entry)) (now (strings .entry)) (now (blob .entry))) (now (blob .entry)) m (readBy (viewIn (now (tables .entry)) (now (layout .entry)) (now (strings .entry)) (now (blob .entry))) m (class .0)) (now (buf .entry)) (now (buf .exit)) r ⌝ }
+    ensures { λ r. let v = viewIn (now (tables .entry)) (now (layout .entry)) (now (strings .entry)) (now (blob .entry)) in
+        ⌜ ReadingIs v (now (blob .entry)) m (readBy v m (class .0)) (now (buf .entry)) (now (buf .exit)) r ⌝ }
 {
     let index = rows::read_column(tables, layout, columns::METHOD_SIGNATURE, m);
     match heaps::get_blob(blob, index as usize) {
@@ -164,7 +165,8 @@ pub fn read_signature(
 ) -> Reading
     requires { ⌜ Laid (now tables) (now layout) ⌝ }
     requires { ⌜ m < rowsAt (now layout) columns.methodSignature ⌝ }
-    ensures { λ r. ⌜ ReadingIs (viewIn (now (tables .entry)) (now (layout .entry)) (now (strings .entry)) (now (blob .entry))) (now (blob .entry)) m (signatureOf (viewIn (now (tables .entry)) (now (layout .entry)) (now (strings .entry)) (now (blob .entry))) m) (now (buf .entry)) (now (buf .exit)) r ⌝ }
+    ensures { λ r. let v = viewIn (now (tables .entry)) (now (layout .entry)) (now (strings .entry)) (now (blob .entry)) in
+        ⌜ ReadingIs v (now (blob .entry)) m (signatureOf v m) (now (buf .entry)) (now (buf .exit)) r ⌝ }
 {
     let n = rows::count_rows(layout, columns::METHOD_LIST);
     let mut class = first_reader(tables, layout, m);
@@ -213,7 +215,8 @@ pub fn write_return_type(
 ) -> Reply
     requires { ⌜ Laid (now tables) (now layout) ⌝ }
     requires { ⌜ m < rowsAt (now layout) columns.methodSignature ⌝ }
-    ensures { λ r. ⌜ Named (nameOr5 (method (viewIn (now (tables .entry)) (now (layout .entry)) (now (strings .entry)) (now (blob .entry))) m .returns)) (now (buf .entry)) r (now (buf .exit)) ⌝ }
+    ensures { λ r. let v = viewIn (now (tables .entry)) (now (layout .entry)) (now (strings .entry)) (now (blob .entry)) in
+        ⌜ Named (nameOr5 (method v m .returns)) (now (buf .entry)) r (now (buf .exit)) ⌝ }
 {
     match read_signature(buf, tables, strings, blob, layout, m) {
         Reading::Read { end, .. } => buffers::finish(buf, end),
@@ -225,7 +228,8 @@ pub fn write_return_type(
 pub fn count_params(tables: &[u8], strings: &[u8], blob: &[u8], layout: &Layout, m: usize) -> usize
     requires { ⌜ Laid (now tables) (now layout) ⌝ }
     requires { ⌜ m < rowsAt (now layout) columns.methodSignature ⌝ }
-    ensures { λ r. ⌜ r ≡ length (method (viewIn (now (tables .entry)) (now (layout .entry)) (now (strings .entry)) (now (blob .entry))) m .parameters) ⌝ }
+    ensures { λ r. let v = viewIn (now (tables .entry)) (now (layout .entry)) (now (strings .entry)) (now (blob .entry)) in
+        ⌜ r ≡ length (method v m .parameters) ⌝ }
 {
     let mut space = [0u8; 1];
     match read_signature(&mut space, tables, strings, blob, layout, m) {
@@ -248,7 +252,8 @@ fn skip_types(
     count: usize,
 ) -> usize
     requires { ⌜ Laid (now tables) (now layout) ⌝ }
-    ensures { λ r. ⌜ (r ≡ behind (type (envIn (now (tables .entry)) (now (layout .entry)) (now (strings .entry)) (now (blob .entry)) class method) levels) count (now (sig .entry)) pos) × (length (now (buf .exit)) ≡ length (now (buf .entry))) ⌝ }
+    ensures { λ r. let e = envIn (now (tables .entry)) (now (layout .entry)) (now (strings .entry)) (now (blob .entry)) class method in
+        ⌜ (r ≡ behind (type e levels) count (now (sig .entry)) pos) × (length (now (buf .exit)) ≡ length (now (buf .entry))) ⌝ }
 {
     let mut p = pos;
     let mut i = 0;
@@ -292,7 +297,9 @@ fn write_type(
     before: usize,
 ) -> Reply
     requires { ⌜ Laid (now tables) (now layout) ⌝ }
-    ensures { λ r. ⌜ Named (nameOr5 (type (envIn (now (tables .entry)) (now (layout .entry)) (now (strings .entry)) (now (blob .entry)) class method) levels (now (sig .entry)) (behind (type (envIn (now (tables .entry)) (now (layout .entry)) (now (strings .entry)) (now (blob .entry)) class method) levels) before (now (sig .entry)) pos) .got)) (now (buf .entry)) r (now (buf .exit)) ⌝ }
+    ensures { λ r. let e = envIn (now (tables .entry)) (now (layout .entry)) (now (strings .entry)) (now (blob .entry)) class method in
+        ⌜ Named (nameOr5 (type e levels (now (sig .entry)) (behind (type e levels) before (now (sig .entry)) pos) .got)) (now (buf .entry))
+        r (now (buf .exit)) ⌝ }
 {
     let at = skip_types(
         buf,
@@ -336,7 +343,8 @@ pub fn write_param_type(
 ) -> Reply
     requires { ⌜ Laid (now tables) (now layout) ⌝ }
     requires { ⌜ m < rowsAt (now layout) columns.methodSignature ⌝ }
-    ensures { λ r. ⌜ Named (item (method (viewIn (now (tables .entry)) (now (layout .entry)) (now (strings .entry)) (now (blob .entry))) m .parameters) p ⟫ (λ k. nameOr5 (k .type))) (now (buf .entry)) r (now (buf .exit)) ⌝ }
+    ensures { λ r. let v = viewIn (now (tables .entry)) (now (layout .entry)) (now (strings .entry)) (now (blob .entry)) in
+        ⌜ Named (item (method v m .parameters) p ⟫ (λ k. nameOr5 (k .type))) (now (buf .entry)) r (now (buf .exit)) ⌝ }
 {
     match read_signature(buf, tables, strings, blob, layout, m) {
         Reading::Read {
@@ -379,7 +387,9 @@ fn push_param_name(
 ) -> Place
     requires { ⌜ Laid (now tables) (now layout) ⌝ }
     requires { ⌜ m < rowsAt (now layout) columns.paramList ⌝ }
-    ensures { λ r. ⌜ ((blob : List ℕ) → Said (now (buf .entry)) 0 (now (buf .exit)) (parameterName (viewIn (now (tables .entry)) (now (layout .entry)) (now (strings .entry)) blob) m p) (placeSays r)) ⌝ }
+    ensures { λ r.
+        ⌜ ((blob : List ℕ) → Said (now (buf .entry)) 0 (now (buf .exit))
+        (parameterName (viewIn (now (tables .entry)) (now (layout .entry)) (now (strings .entry)) blob) m p) (placeSays r)) ⌝ }
 {
     let first = rows::read_column(tables, layout, columns::PARAM_LIST, m) as usize;
     let place = p as usize;
@@ -417,7 +427,8 @@ pub fn write_param_name(
 ) -> Reply
     requires { ⌜ Laid (now tables) (now layout) ⌝ }
     requires { ⌜ m < rowsAt (now layout) columns.methodSignature ⌝ }
-    ensures { λ r. ⌜ Named (item (method (viewIn (now (tables .entry)) (now (layout .entry)) (now (strings .entry)) (now (blob .entry))) m .parameters) p ⟫ (λ k. nameOr5 (k .name))) (now (buf .entry)) r (now (buf .exit)) ⌝ }
+    ensures { λ r. let v = viewIn (now (tables .entry)) (now (layout .entry)) (now (strings .entry)) (now (blob .entry)) in
+        ⌜ Named (item (method v m .parameters) p ⟫ (λ k. nameOr5 (k .name))) (now (buf .entry)) r (now (buf .exit)) ⌝ }
 {
     match read_signature(buf, tables, strings, blob, layout, m) {
         Reading::Read { count, .. } => {

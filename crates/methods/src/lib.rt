@@ -6,6 +6,7 @@ use rows::columns;
 ghost use mathlib.Core.Path.{_≡_};
 ghost use mathlib.Core.List.{List};
 ghost use Prim.Native.Nat.{ℕ, _-_, _<_, _≤_};
+ghost use Rattle.classes.specs.Numbering.{classOf};
 ghost use Rattle.record.specs.Methods.{takes, leftAfter};
 ghost use Rattle.rows.specs.Columns as columns;
 ghost use Rattle.rows.specs.Layout.{Laid, rowsAt, viewIn};
@@ -67,7 +68,8 @@ fn left_after(tables: &[u8], layout: &rows::Layout, row: usize) -> usize
 pub fn method_range(tables: &[u8], layout: &rows::Layout, row: TypeDefRow) -> Range
     requires { ⌜ Laid (now tables) (now layout) ⌝ }
     requires { ⌜ (1 < row .0) × (row .0 ≤ rowsAt (now layout) columns.methodList) ⌝ }
-    ensures { λ r. ⌜ ((strings blob : List ℕ) → RangeOf (viewIn (now (tables .entry)) (now (layout .entry)) strings blob) (row .0 - 2) (r .first) (r .end)) ⌝ }
+    ensures { λ r.
+        ⌜ ((strings blob : List ℕ) → RangeOf (viewIn (now (tables .entry)) (now (layout .entry)) strings blob) (classOf row) (r .first) (r .end)) ⌝ }
 {
     let own = wide(row.0);
     let end = left_after(tables, layout, own);

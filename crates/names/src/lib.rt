@@ -49,7 +49,8 @@ fn class_string(
 ) -> Name
     requires { ⌜ Laid (now tables) (now layout) ⌝ }
     requires { ⌜ (column < columns.count) × (readColumn column .kind ≡ typeDef) ⌝ }
-    ensures { λ r. ⌜ Shows (now (strings .entry)) (classString (now (tables .entry)) (now (layout .entry)) (now (strings .entry)) column (row .0)) r ⌝ }
+    ensures { λ r.
+        ⌜ Shows (now (strings .entry)) (classString (now (tables .entry)) (now (layout .entry)) (now (strings .entry)) column (row .0)) r ⌝ }
 {
     let r = row.0 as usize;
     if r < 2 {
@@ -162,7 +163,10 @@ fn put_front(
 ) -> Spot
     requires { ⌜ Laid (now tables) (now layout) ⌝ }
     requires { ⌜ (floor ≤ end) × (end ≤ length (now buf)) ⌝ }
-    ensures { λ r. ⌜ Placed (now (buf .entry)) floor end (frontIn (now (tables .entry)) (now (layout .entry)) (now (strings .entry)) (rowsAt (now (layout .entry)) columns.nested) (row .0)) (now (buf .exit)) r ⌝ }
+    ensures { λ r.
+        ⌜ Placed (now (buf .entry)) floor end
+        (frontIn (now (tables .entry)) (now (layout .entry)) (now (strings .entry)) (rowsAt (now (layout .entry)) columns.nested) (row .0))
+        (now (buf .exit)) r ⌝ }
 {
     let mut i = rows::count_rows(layout, rows::columns::NESTED);
     let mut class = row;
@@ -215,7 +219,10 @@ fn push_behind_front(
 ) -> usize
     requires { ⌜ Laid (now tables) (now layout) ⌝ }
     requires { ⌜ start + len ≤ length (now strings) ⌝ }
-    ensures { λ r. ⌜ Wrote (now (buf .entry)) at (behindFront (now (tables .entry)) (now (layout .entry)) (now (strings .entry)) (row .0) (part (now (strings .entry)) start len)) (now (buf .exit)) r ⌝ }
+    ensures { λ r.
+        ⌜ Wrote (now (buf .entry)) at
+        (behindFront (now (tables .entry)) (now (layout .entry)) (now (strings .entry)) (row .0) (part (now (strings .entry)) start len))
+        (now (buf .exit)) r ⌝ }
 {
     if buf.len() < at {
         return buf.len() + 1;
@@ -244,7 +251,9 @@ pub fn push_class_name(
     row: TypeDefRow,
 ) -> Place
     requires { ⌜ Laid (now tables) (now layout) ⌝ }
-    ensures { λ r. ⌜ ((blob : List ℕ) → Said (now (buf .entry)) at (now (buf .exit)) (classFullName (viewIn (now (tables .entry)) (now (layout .entry)) (now (strings .entry)) blob) (row .0)) (placeSays r)) ⌝ }
+    ensures { λ r.
+        ⌜ ((blob : List ℕ) → Said (now (buf .entry)) at (now (buf .exit))
+        (classFullName (viewIn (now (tables .entry)) (now (layout .entry)) (now (strings .entry)) blob) (row .0)) (placeSays r)) ⌝ }
 {
     match class_own_name(tables, strings, layout, row) {
         Name::At { start, len } => Place::Next(push_behind_front(
@@ -280,7 +289,10 @@ fn push_ref_namespace(
 ) -> usize
     requires { ⌜ Laid (now tables) (now layout) ⌝ }
     requires { ⌜ i < rowsAt (now layout) columns.refNamespace ⌝ }
-    ensures { λ r. ⌜ Wrote (now (buf .entry)) at (dotted (string (now (strings .entry)) (cell (now (tables .entry)) (now (layout .entry)) columns.refNamespace i))) (now (buf .exit)) r ⌝ }
+    ensures { λ r.
+        ⌜ Wrote (now (buf .entry)) at
+        (dotted (string (now (strings .entry)) (cell (now (tables .entry)) (now (layout .entry)) columns.refNamespace i))) (now (buf .exit))
+        r ⌝ }
 {
     match rows::read_string(tables, strings, layout, rows::columns::REF_NAMESPACE, i) {
         Part::Found { start, len } => {
@@ -302,7 +314,9 @@ pub fn push_ref_name(
     row: u32,
 ) -> Place
     requires { ⌜ Laid (now tables) (now layout) ⌝ }
-    ensures { λ r. ⌜ ((blob : List ℕ) → Said (now (buf .entry)) at (now (buf .exit)) (refFullName (viewIn (now (tables .entry)) (now (layout .entry)) (now (strings .entry)) blob) row) (placeSays r)) ⌝ }
+    ensures { λ r.
+        ⌜ ((blob : List ℕ) → Said (now (buf .entry)) at (now (buf .exit))
+        (refFullName (viewIn (now (tables .entry)) (now (layout .entry)) (now (strings .entry)) blob) row) (placeSays r)) ⌝ }
 {
     let r = row as usize;
     if r == 0 {

@@ -75,7 +75,9 @@ fn kept_rows(kind: usize, rows: u32, count: u32) -> usize
 // The layout of a stream of that length, opened with these options, with what its header says.
 fn lay(len: usize, first: usize, heap: u8, counts: &[u32; 64], options: Options) -> Layout
     requires { ⌜ (first ≤ len) × (len < 9223372036854775808) ⌝ }
-    ensures { λ r. ⌜ (Unmarked (layoutOf options (record { answer = Ready; heap = heap; first = first; counts = now (counts .entry) }) len) r) × (options .limit < 4294967296) ⌝ }
+    ensures { λ r.
+        ⌜ (Unmarked (layoutOf options (record { answer = Ready; heap = heap; first = first; counts = now (counts .entry) }) len) r) ×
+        (options .limit < 4294967296) ⌝ }
 {
     let security = options.security;
     let sizes = layouts::index_sizes(heap, counts, security);

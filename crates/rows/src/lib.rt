@@ -64,7 +64,9 @@ pub fn write_string(
 ) -> Reply
     requires { ⌜ Laid (now tables) (now layout) ⌝ }
     requires { ⌜ (column < columns.count) × (i < rowsAt (now layout) column) ⌝ }
-    ensures { λ r. ⌜ Named (nameOr5 (string (now (strings .entry)) (cell (now (tables .entry)) (now (layout .entry)) column i))) (now (buf .entry)) r (now (buf .exit)) ⌝ }
+    ensures { λ r.
+        ⌜ Named (nameOr5 (string (now (strings .entry)) (cell (now (tables .entry)) (now (layout .entry)) column i))) (now (buf .entry)) r
+        (now (buf .exit)) ⌝ }
 {
     match read_string(tables, strings, layout, column, i) {
         Part::Found { start, len } => {

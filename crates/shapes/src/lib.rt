@@ -176,7 +176,9 @@ fn push_dims(
     sizes: Items,
     bounds: Items,
 ) -> usize
-    ensures { λ r. ⌜ Wrote (now (buf .entry)) at (dims rank 0 (items uint (now (sig .entry)) sizes) (items sint (now (sig .entry)) bounds) ++ q "]") (now (buf .exit)) r ⌝ }
+    ensures { λ r.
+        ⌜ Wrote (now (buf .entry)) at (dims rank 0 (items uint (now (sig .entry)) sizes) (items sint (now (sig .entry)) bounds) ++ q "]")
+        (now (buf .exit)) r ⌝ }
 {
     let mut size_pos = sizes.first;
     let mut bound_pos = bounds.first;

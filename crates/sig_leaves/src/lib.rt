@@ -118,7 +118,9 @@ fn push_string(
 ) -> Place
     requires { ⌜ Laid (now tables) (now layout) ⌝ }
     requires { ⌜ (column < columns.count) × (i < rowsAt (now layout) column) ⌝ }
-    ensures { λ r. ⌜ Said (now (buf .entry)) at (now (buf .exit)) (string (now (strings .entry)) (cell (now (tables .entry)) (now (layout .entry)) column i)) (placeSays r) ⌝ }
+    ensures { λ r.
+        ⌜ Said (now (buf .entry)) at (now (buf .exit))
+        (string (now (strings .entry)) (cell (now (tables .entry)) (now (layout .entry)) column i)) (placeSays r) ⌝ }
 {
     match rows::read_string(tables, strings, layout, column, i) {
         Part::Found { start, len } => {
@@ -140,7 +142,9 @@ fn push_owned(
     i: usize,
 ) -> Place
     requires { ⌜ Laid (now tables) (now layout) ⌝ }
-    ensures { λ r. ⌜ ((blob : List ℕ) → Said (now (buf .entry)) at (now (buf .exit)) (nameAt (viewIn (now (tables .entry)) (now (layout .entry)) (now (strings .entry)) blob .generics key) i) (placeSays r)) ⌝ }
+    ensures { λ r.
+        ⌜ ((blob : List ℕ) → Said (now (buf .entry)) at (now (buf .exit))
+        (nameAt (viewIn (now (tables .entry)) (now (layout .entry)) (now (strings .entry)) blob .generics key) i) (placeSays r)) ⌝ }
 {
     match keys::find_key(tables, layout, columns::OWNER, key, i) {
         Row::At(row) => push_string(buf, at, tables, strings, layout, columns::GENERIC_NAME, row),
@@ -159,7 +163,9 @@ pub fn push_generic(
     i: usize,
 ) -> Place
     requires { ⌜ Laid (now tables) (now layout) ⌝ }
-    ensures { λ r. ⌜ ((blob : List ℕ) → Said (now (buf .entry)) at (now (buf .exit)) (nameAt (genericsOf (viewIn (now (tables .entry)) (now (layout .entry)) (now (strings .entry)) blob) owner) i) (placeSays r)) ⌝ }
+    ensures { λ r.
+        ⌜ ((blob : List ℕ) → Said (now (buf .entry)) at (now (buf .exit))
+        (nameAt (genericsOf (viewIn (now (tables .entry)) (now (layout .entry)) (now (strings .entry)) blob) owner) i) (placeSays r)) ⌝ }
 {
     match owner {
         Owner::Of(key) => push_owned(buf, at, tables, strings, layout, key, i),
@@ -179,7 +185,10 @@ pub fn sig_generic(
     pos: usize,
 ) -> Rendering
     requires { ⌜ Laid (now tables) (now layout) ⌝ }
-    ensures { λ r. ⌜ ((blob : List ℕ) → Rendered (generic (nameAt (genericsOf (viewIn (now (tables .entry)) (now (layout .entry)) (now (strings .entry)) blob) owner)) (now (sig .entry)) pos) (now (buf .entry)) at (now (buf .exit)) r) ⌝ }
+    ensures { λ r.
+        ⌜ ((blob : List ℕ) → Rendered
+        (generic (nameAt (genericsOf (viewIn (now (tables .entry)) (now (layout .entry)) (now (strings .entry)) blob) owner))
+        (now (sig .entry)) pos) (now (buf .entry)) at (now (buf .exit)) r) ⌝ }
 {
     match numbers::read_uint(sig, pos) {
         Uint::Number(i, next) => {
@@ -195,7 +204,9 @@ pub fn sig_generic(
 // The signature of TypeSpec row r, from 1.
 pub fn spec_blob(tables: &[u8], blob: &[u8], layout: &Layout, row: u32) -> Blob
     requires { ⌜ Laid (now tables) (now layout) ⌝ }
-    ensures { λ r. ⌜ ((strings : List ℕ) → BlobIs (now (blob .entry)) (specBlob (viewIn (now (tables .entry)) (now (layout .entry)) strings (now (blob .entry))) row) r) ⌝ }
+    ensures { λ r.
+        ⌜ ((strings : List ℕ) → BlobIs (now (blob .entry))
+        (specBlob (viewIn (now (tables .entry)) (now (layout .entry)) strings (now (blob .entry))) row) r) ⌝ }
 {
     let r = row as usize;
     if r == 0 {

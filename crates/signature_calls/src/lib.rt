@@ -22,7 +22,8 @@ pub fn return_type(
     m: u32,
     buf: &mut [u8],
 ) -> Reply
-    ensures { λ r. ⌜ Named (returnType (view options (now (tables .entry)) (now (strings .entry)) (now (blob .entry))) (class .0) m) (now (buf .entry)) r (now (buf .exit)) ⌝ }
+    ensures { λ r. let v = view options (now (tables .entry)) (now (strings .entry)) (now (blob .entry)) in
+        ⌜ Named (returnType v (class .0) m) (now (buf .entry)) r (now (buf .exit)) ⌝ }
 {
     let opened = opening::open(tables, options);
     let answer = opened.answer;
@@ -42,7 +43,8 @@ pub fn param_count(
     class: ClassNumber,
     m: u32,
 ) -> Reply
-    ensures { λ r. ⌜ Numbered (parameterCount (view options (now (tables .entry)) (now (strings .entry)) (now (blob .entry))) (class .0) m) r ⌝ }
+    ensures { λ r. let v = view options (now (tables .entry)) (now (strings .entry)) (now (blob .entry)) in
+        ⌜ Numbered (parameterCount v (class .0) m) r ⌝ }
 {
     let opened = opening::open(tables, options);
     let answer = opened.answer;
@@ -64,7 +66,8 @@ pub fn param_type(
     p: u32,
     buf: &mut [u8],
 ) -> Reply
-    ensures { λ r. ⌜ Named (parameterType (view options (now (tables .entry)) (now (strings .entry)) (now (blob .entry))) (class .0) m p) (now (buf .entry)) r (now (buf .exit)) ⌝ }
+    ensures { λ r. let v = view options (now (tables .entry)) (now (strings .entry)) (now (blob .entry)) in
+        ⌜ Named (parameterType v (class .0) m p) (now (buf .entry)) r (now (buf .exit)) ⌝ }
 {
     let opened = opening::open(tables, options);
     let answer = opened.answer;
@@ -86,7 +89,8 @@ pub fn param_name(
     p: u32,
     buf: &mut [u8],
 ) -> Reply
-    ensures { λ r. ⌜ Named (parameterName (view options (now (tables .entry)) (now (strings .entry)) (now (blob .entry))) (class .0) m p) (now (buf .entry)) r (now (buf .exit)) ⌝ }
+    ensures { λ r. let v = view options (now (tables .entry)) (now (strings .entry)) (now (blob .entry)) in
+        ⌜ Named (parameterName v (class .0) m p) (now (buf .entry)) r (now (buf .exit)) ⌝ }
 {
     let opened = opening::open(tables, options);
     let answer = opened.answer;

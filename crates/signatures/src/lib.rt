@@ -54,7 +54,8 @@ pub fn parse_sig_type(
     left: usize,
 ) -> Rendering
     requires { ⌜ Laid (now tables) (now layout) ⌝ }
-    ensures { λ r. ⌜ Rendered (type (envIn (now (tables .entry)) (now (layout .entry)) (now (strings .entry)) (now (blob .entry)) class method) left (now (sig .entry)) pos) (now (buf .entry)) at (now (buf .exit)) r ⌝ }
+    ensures { λ r. let e = envIn (now (tables .entry)) (now (layout .entry)) (now (strings .entry)) (now (blob .entry)) class method in
+        ⌜ Rendered (type e left (now (sig .entry)) pos) (now (buf .entry)) at (now (buf .exit)) r ⌝ }
 {
     let owners = owners_of(class, method);
     sig_type(
@@ -85,7 +86,8 @@ pub fn get_type_fullname(
     left: usize,
 ) -> Place
     requires { ⌜ Laid (now tables) (now layout) ⌝ }
-    ensures { λ r. ⌜ Said (now (buf .entry)) at (now (buf .exit)) (typeFullName (envIn (now (tables .entry)) (now (layout .entry)) (now (strings .entry)) (now (blob .entry)) class method) (type (envIn (now (tables .entry)) (now (layout .entry)) (now (strings .entry)) (now (blob .entry)) class method) left) index .got) (placeSays r) ⌝ }
+    ensures { λ r. let e = envIn (now (tables .entry)) (now (layout .entry)) (now (strings .entry)) (now (blob .entry)) class method in
+        ⌜ Said (now (buf .entry)) at (now (buf .exit)) (typeFullName e (type e left) index .got) (placeSays r) ⌝ }
 {
     let owners = owners_of(class, method);
     type_name(buf, at, tables, strings, blob, layout, &owners, index, left)
@@ -158,7 +160,8 @@ fn sig_type(
     left: usize,
 ) -> Rendering
     requires { ⌜ Laid (now tables) (now layout) ⌝ }
-    ensures { λ r. ⌜ Rendered (type (envOf (now (tables .entry)) (now (layout .entry)) (now (strings .entry)) (now (blob .entry)) (now (owners .entry))) left (now (sig .entry)) pos) (now (buf .entry)) at (now (buf .exit)) r ⌝ }
+    ensures { λ r. let e = envOf (now (tables .entry)) (now (layout .entry)) (now (strings .entry)) (now (blob .entry)) (now (owners .entry)) in
+        ⌜ Rendered (type e left (now (sig .entry)) pos) (now (buf .entry)) at (now (buf .exit)) r ⌝ }
 {
     if sig.len() <= pos {
         return Rendering::Failed(pos);
@@ -206,7 +209,8 @@ fn sig_plain(
 ) -> Rendering
     requires { ⌜ Laid (now tables) (now layout) ⌝ }
     requires { ⌜ (0 < left) × Plain (now sig) pos ⌝ }
-    ensures { λ r. ⌜ Rendered (type (envOf (now (tables .entry)) (now (layout .entry)) (now (strings .entry)) (now (blob .entry)) (now (owners .entry))) left (now (sig .entry)) pos) (now (buf .entry)) at (now (buf .exit)) r ⌝ }
+    ensures { λ r. let e = envOf (now (tables .entry)) (now (layout .entry)) (now (strings .entry)) (now (blob .entry)) (now (owners .entry)) in
+        ⌜ Rendered (type e left (now (sig .entry)) pos) (now (buf .entry)) at (now (buf .exit)) r ⌝ }
 {
     if sig.len() <= pos {
         return Rendering::Failed(pos);
@@ -255,7 +259,8 @@ fn sig_inner(
 ) -> Rendering
     requires { ⌜ Laid (now tables) (now layout) ⌝ }
     requires { ⌜ (0 < left) × (full ≡ true → Other (now sig) pos → ⊥) ⌝ }
-    ensures { λ r. ⌜ Rendered (type (envOf (now (tables .entry)) (now (layout .entry)) (now (strings .entry)) (now (blob .entry)) (now (owners .entry))) left (now (sig .entry)) pos) (now (buf .entry)) at (now (buf .exit)) r ⌝ }
+    ensures { λ r. let e = envOf (now (tables .entry)) (now (layout .entry)) (now (strings .entry)) (now (blob .entry)) (now (owners .entry)) in
+        ⌜ Rendered (type e left (now (sig .entry)) pos) (now (buf .entry)) at (now (buf .exit)) r ⌝ }
 {
     if full {
         return sig_many(
@@ -300,7 +305,8 @@ fn sig_few(
 ) -> Rendering
     requires { ⌜ Laid (now tables) (now layout) ⌝ }
     requires { ⌜ (0 < left) × (Other (now sig) pos → ⊥) ⌝ }
-    ensures { λ r. ⌜ Rendered (type (envOf (now (tables .entry)) (now (layout .entry)) (now (strings .entry)) (now (blob .entry)) (now (owners .entry))) left (now (sig .entry)) pos) (now (buf .entry)) at (now (buf .exit)) r ⌝ }
+    ensures { λ r. let e = envOf (now (tables .entry)) (now (layout .entry)) (now (strings .entry)) (now (blob .entry)) (now (owners .entry)) in
+        ⌜ Rendered (type e left (now (sig .entry)) pos) (now (buf .entry)) at (now (buf .exit)) r ⌝ }
 {
     let mut slots = [0u16; FEW];
     sig_level(
@@ -333,7 +339,8 @@ fn sig_many(
 ) -> Rendering
     requires { ⌜ Laid (now tables) (now layout) ⌝ }
     requires { ⌜ (0 < left) × (Other (now sig) pos → ⊥) ⌝ }
-    ensures { λ r. ⌜ Rendered (type (envOf (now (tables .entry)) (now (layout .entry)) (now (strings .entry)) (now (blob .entry)) (now (owners .entry))) left (now (sig .entry)) pos) (now (buf .entry)) at (now (buf .exit)) r ⌝ }
+    ensures { λ r. let e = envOf (now (tables .entry)) (now (layout .entry)) (now (strings .entry)) (now (blob .entry)) (now (owners .entry)) in
+        ⌜ Rendered (type e left (now (sig .entry)) pos) (now (buf .entry)) at (now (buf .exit)) r ⌝ }
 {
     let mut slots = [0u16; MANY];
     sig_level(
@@ -367,7 +374,8 @@ fn sig_level(
 ) -> Rendering
     requires { ⌜ Laid (now tables) (now layout) ⌝ }
     requires { ⌜ (0 < left) × (Other (now sig) pos → ⊥) × (0 < length (now slots)) ⌝ }
-    ensures { λ r. ⌜ Rendered (type (envOf (now (tables .entry)) (now (layout .entry)) (now (strings .entry)) (now (blob .entry)) (now (owners .entry))) left (now (sig .entry)) pos) (now (buf .entry)) at (now (buf .exit)) r ⌝ }
+    ensures { λ r. let e = envOf (now (tables .entry)) (now (layout .entry)) (now (strings .entry)) (now (blob .entry)) (now (owners .entry)) in
+        ⌜ Rendered (type e left (now (sig .entry)) pos) (now (buf .entry)) at (now (buf .exit)) r ⌝ }
 {
     let mut k = at;
     let mut p = pos;
@@ -431,7 +439,8 @@ fn sig_form(
 ) -> Rendering
     requires { ⌜ Laid (now tables) (now layout) ⌝ }
     requires { ⌜ (0 < left) × Plain (now sig) pos × (pos < length (now sig)) × (getD (now sig) pos 0 ≡ 0x15 → ⊥) ⌝ }
-    ensures { λ r. ⌜ Rendered (type (envOf (now (tables .entry)) (now (layout .entry)) (now (strings .entry)) (now (blob .entry)) (now (owners .entry))) left (now (sig .entry)) pos) (now (buf .entry)) at (now (buf .exit)) r ⌝ }
+    ensures { λ r. let e = envOf (now (tables .entry)) (now (layout .entry)) (now (strings .entry)) (now (blob .entry)) (now (owners .entry)) in
+        ⌜ Rendered (type e left (now (sig .entry)) pos) (now (buf .entry)) at (now (buf .exit)) r ⌝ }
 {
     let tag = sig[pos];
     let p = pos + 1;
@@ -492,7 +501,13 @@ fn sig_var(
     tag: u8,
 ) -> Rendering
     requires { ⌜ Laid (now tables) (now layout) ⌝ }
-    ensures { λ r. ⌜ ((blob : List ℕ) → Rendered (generic (nameAt (genericsOf (viewIn (now (tables .entry)) (now (layout .entry)) (now (strings .entry)) blob) (ownerBy tag (ownerAt (now (owners .entry)) 0) (ownerAt (now (owners .entry)) 2)))) (now (sig .entry)) pos) (now (buf .entry)) at (now (buf .exit)) r) ⌝ }
+    ensures { λ r.
+        ⌜ ((blob : List ℕ) → Rendered
+        (generic
+        (nameAt
+        (genericsOf (viewIn (now (tables .entry)) (now (layout .entry)) (now (strings .entry)) blob)
+        (ownerBy tag (ownerAt (now (owners .entry)) 0) (ownerAt (now (owners .entry)) 2)))) (now (sig .entry)) pos) (now (buf .entry)) at
+        (now (buf .exit)) r) ⌝ }
 {
     if tag == 0x13 {
         return sig_leaves::sig_generic(
@@ -553,7 +568,8 @@ fn sig_around(
     tag: u8,
 ) -> Rendering
     requires { ⌜ Laid (now tables) (now layout) ⌝ }
-    ensures { λ r. ⌜ Rendered (around (before tag) (behind tag) (type (envOf (now (tables .entry)) (now (layout .entry)) (now (strings .entry)) (now (blob .entry)) (now (owners .entry))) left) (now (sig .entry)) pos) (now (buf .entry)) at (now (buf .exit)) r ⌝ }
+    ensures { λ r. let e = envOf (now (tables .entry)) (now (layout .entry)) (now (strings .entry)) (now (blob .entry)) (now (owners .entry)) in
+        ⌜ Rendered (around (before tag) (behind tag) (type e left) (now (sig .entry)) pos) (now (buf .entry)) at (now (buf .exit)) r ⌝ }
 {
     let first = push_before(buf, at, tag);
     match sig_type(
@@ -587,7 +603,8 @@ fn sig_class(
     left: usize,
 ) -> Rendering
     requires { ⌜ Laid (now tables) (now layout) ⌝ }
-    ensures { λ r. ⌜ Rendered (classType (envOf (now (tables .entry)) (now (layout .entry)) (now (strings .entry)) (now (blob .entry)) (now (owners .entry))) (type (envOf (now (tables .entry)) (now (layout .entry)) (now (strings .entry)) (now (blob .entry)) (now (owners .entry))) left) (now (sig .entry)) pos) (now (buf .entry)) at (now (buf .exit)) r ⌝ }
+    ensures { λ r. let e = envOf (now (tables .entry)) (now (layout .entry)) (now (strings .entry)) (now (blob .entry)) (now (owners .entry)) in
+        ⌜ Rendered (classType e (type e left) (now (sig .entry)) pos) (now (buf .entry)) at (now (buf .exit)) r ⌝ }
 {
     match numbers::read_uint(sig, pos) {
         Uint::Number(index, next) => {
@@ -613,7 +630,8 @@ fn type_name(
     left: usize,
 ) -> Place
     requires { ⌜ Laid (now tables) (now layout) ⌝ }
-    ensures { λ r. ⌜ Said (now (buf .entry)) at (now (buf .exit)) (typeFullName (envOf (now (tables .entry)) (now (layout .entry)) (now (strings .entry)) (now (blob .entry)) (now (owners .entry))) (type (envOf (now (tables .entry)) (now (layout .entry)) (now (strings .entry)) (now (blob .entry)) (now (owners .entry))) left) index .got) (placeSays r) ⌝ }
+    ensures { λ r. let e = envOf (now (tables .entry)) (now (layout .entry)) (now (strings .entry)) (now (blob .entry)) (now (owners .entry)) in
+        ⌜ Said (now (buf .entry)) at (now (buf .exit)) (typeFullName e (type e left) index .got) (placeSays r) ⌝ }
 {
     let row = index / 4;
     match index % 4 {
@@ -658,7 +676,8 @@ fn sig_array(
     left: usize,
 ) -> Rendering
     requires { ⌜ Laid (now tables) (now layout) ⌝ }
-    ensures { λ r. ⌜ Rendered (array (type (envOf (now (tables .entry)) (now (layout .entry)) (now (strings .entry)) (now (blob .entry)) (now (owners .entry))) left) (now (sig .entry)) pos) (now (buf .entry)) at (now (buf .exit)) r ⌝ }
+    ensures { λ r. let e = envOf (now (tables .entry)) (now (layout .entry)) (now (strings .entry)) (now (blob .entry)) (now (owners .entry)) in
+        ⌜ Rendered (array (type e left) (now (sig .entry)) pos) (now (buf .entry)) at (now (buf .exit)) r ⌝ }
 {
     match sig_type(
         buf,
@@ -691,7 +710,8 @@ fn parse_method_def_signature(
     left: usize,
 ) -> Rendering
     requires { ⌜ Laid (now tables) (now layout) ⌝ }
-    ensures { λ r. ⌜ Rendered (fnPtr (type (envOf (now (tables .entry)) (now (layout .entry)) (now (strings .entry)) (now (blob .entry)) (now (owners .entry))) left) (now (sig .entry)) pos) (now (buf .entry)) at (now (buf .exit)) r ⌝ }
+    ensures { λ r. let e = envOf (now (tables .entry)) (now (layout .entry)) (now (strings .entry)) (now (blob .entry)) (now (owners .entry)) in
+        ⌜ Rendered (fnPtr (type e left) (now (sig .entry)) pos) (now (buf .entry)) at (now (buf .exit)) r ⌝ }
 {
     match sig_leaves::read_method_start(sig, pos) {
         Uint::Number(count, first) => {
@@ -753,7 +773,8 @@ fn sig_parameters(
 ) -> Rendering
     requires { ⌜ Laid (now tables) (now layout) ⌝ }
     requires { ⌜ at ≤ length (now buf) + 1 ⌝ }
-    ensures { λ r. ⌜ Rendered (parameters count 0 (type (envOf (now (tables .entry)) (now (layout .entry)) (now (strings .entry)) (now (blob .entry)) (now (owners .entry))) left) (now (sig .entry)) pos) (now (buf .entry)) at (now (buf .exit)) r ⌝ }
+    ensures { λ r. let e = envOf (now (tables .entry)) (now (layout .entry)) (now (strings .entry)) (now (blob .entry)) (now (owners .entry)) in
+        ⌜ Rendered (parameters count 0 (type e left) (now (sig .entry)) pos) (now (buf .entry)) at (now (buf .exit)) r ⌝ }
 {
     let n = count as usize;
     let mut p = pos;

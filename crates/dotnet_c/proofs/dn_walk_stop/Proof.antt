@@ -6,7 +6,7 @@ use Rattle.dotnet_c.proofs.dn_walk_stop.Statement.{statement}
 use Rattle.dotnet_c.proofs.dn_walk_stop.Tie as tie
 use Rattle.dotnet_c.proofs.dn_walk_stop.Reads as reads
 use Rattle.dotnet_c.proofs.dn_walk_stop.Lts as lts
-use Rattle.c_replies.proofs.reply_of.Reads as reply-of-reads
+use Rattle.c_replies.proofs.stop_of.Reads as stop-of-reads
 use Rattle.dotnet.proofs.walk.Reads as walk-reads
 
 -- src/lib.rt:20:16
@@ -14,12 +14,12 @@ walk-requires : tie.Need-walk-requires
 walk-requires c κs = search needs
 
 -- src/lib.rt:22:5
-reply-of-requires : tie.Need-reply-of-requires
-reply-of-requires c κs = search needs
+stop-of-requires : tie.Need-stop-of-requires
+stop-of-requires c κs = search needs
 
 -- src/lib.rt:16:1
 returns : tie.Need-returns
-returns c = c .reply-of .ensures ∙ ap (λ (w : Walked). told (w .stop)) (c .before .walk .ensures)
+returns c = c .stop-of .ensures ∙ ap (λ (w : Walked). told (w .stop)) (c .before .walk .ensures)
 
 pub dn-walk-stop-spec : {M : Type 1} → statement M
-dn-walk-stop-spec = tie.close (tie.spec walk-requires reply-of-requires returns)
+dn-walk-stop-spec = tie.close (tie.spec walk-requires stop-of-requires returns)
