@@ -2,3 +2,4 @@ pub mod Whole
 pub mod Few
 pub mod Longest
 pub mod Pieces
+pub mod Alike

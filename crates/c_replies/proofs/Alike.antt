@@ -1,0 +1,33 @@
+-- What the calls for C promise is a function of the view, and so is the same of rearranged streams. Assumes nothing.
+use mathlib.Core.Path.{_≡_, sym, ap, ap₂, _∙_}
+use mathlib.Core.List.{List}
+use Prim.Native.Nat.{ℕ}
+use lib.ListN.{length}
+use Rattle.buffers.specs.Texts.{Text}
+use Rattle.buffers.specs.Replies.{Answer, nameReply, nameBuffer}
+use Rattle.header.specs.Opening.{base}
+use Rattle.tables.specs.Extents.{Walked, walkOf}
+use Rattle.record.specs.Answers.{walkAnswer, numberAnswer, nameAnswer}
+use Rattle.record.proofs.Laws.{walk-is}
+use Rattle.record.proofs.Demand.{rearrangement-survives}
+use Rattle.c_replies.specs.Told.{told, ToldName, toldExtent}
+use Rattle.c_replies.specs.Alike.{CallsAlike}
+use Rattle.c_replies.specs.declared.DnReply.{DnReply}
+
+-- Two calls for one name, with buffers of one length.
+told-same : {a a′ : Answer Text} {b b′ c c′ : List ℕ} {r r′ : DnReply}
+    → a′ ≡ a → length b′ ≡ length b → ToldName a b r c → ToldName a′ b′ r′ c′ → (r′ ≡ r) × (c′ ≡ c)
+told-same e l x y =
+    (y .reply ∙ ap told (ap₂ nameReply e l) ∙ sym (x .reply), y .buffer ∙ ap₂ nameBuffer e l ∙ sym (x .buffer))
+
+pub calls-alike : CallsAlike
+calls-alike t u strings blob r =
+    let same = rearrangement-survives base t u strings blob r .1 in
+    let walk : walkOf base u ≡ walkOf base t =
+    sym (walk-is base u strings blob) ∙ same .all-else-same walkAnswer ∙ walk-is base t strings blob in
+    record {
+      stop-same = ap (λ (w : Walked). told (w .stop)) walk;
+      extents-same = λ kind. ap (λ (w : Walked). toldExtent w kind) walk;
+      numbers-same = λ call. same .all-else-same (λ v. told (numberAnswer call v));
+      names-same = λ call before before′ after after′ d d′. told-same (same .all-else-same (nameAnswer call));
+    }
