@@ -6,7 +6,7 @@ use header::Options;
 use tables::Extents;
 ghost use mathlib.Core.Path.{_≡_};
 ghost use lib.ListN.{length};
-ghost use Rattle.header.specs.Opening.{base};
+ghost use Rattle.header.specs.Stream.{base};
 ghost use Rattle.record.specs.Rearrangement.{Rearranged};
 
 // The replies of a call on the one stream and on the other.

@@ -5,7 +5,7 @@ use Prim.Native.Nat.{ℕ}
 use lib.ListN.{length}
 use Rattle.buffers.specs.Texts.{Text}
 use Rattle.buffers.specs.Replies.{Answer, nameReply, nameBuffer}
-use Rattle.header.specs.Opening.{base}
+use Rattle.header.specs.Stream.{base}
 use Rattle.tables.specs.Extents.{Walked, walkOf}
 use Rattle.record.specs.Answers.{walkAnswer, numberAnswer, nameAnswer}
 use Rattle.record.proofs.Laws.{walk-is}

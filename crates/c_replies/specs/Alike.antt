@@ -4,7 +4,7 @@ use mathlib.Core.Path.{_≡_}
 use mathlib.Core.List.{List}
 use Prim.Native.Nat.{ℕ}
 use lib.ListN.{length}
-use Rattle.header.specs.Opening.{base}
+use Rattle.header.specs.Stream.{base}
 use Rattle.tables.specs.Extents.{walkOf}
 use Rattle.record.specs.View.{view}
 use Rattle.record.specs.Rearrangement.{Rearranged}

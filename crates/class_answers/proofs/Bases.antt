@@ -20,7 +20,7 @@ use Rattle.record.specs.Record.{class}
 use Rattle.record.specs.Answers.{_⟫_, orNoRow, item, theClass, Numbered, baseCount, baseName}
 use Rattle.rows.specs.Columns as columns
 use Rattle.rows.specs.Layout.{Laid, rowsAt, viewIn}
-use Rattle.listed.proofs.Laws.{listed, unlisted}
+use Rattle.places.proofs.Laws.{listed, unlisted}
 
 -- A text that may be missing, which was written from the buffer's start, answers a call that says 4 where it is missing.
 module _ {b b₁ b₂ : List ℕ} {r : Reply} {o : Option Text} where

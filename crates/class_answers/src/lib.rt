@@ -3,7 +3,7 @@ use buffers::Place;
 use buffers::Refusal;
 use buffers::Reply;
 use classes::ClassNumber;
-use listed::ClassRow;
+use places::ClassRow;
 use rows::Layout;
 use rows::columns;
 ghost use mathlib.Core.List.{List};
@@ -18,7 +18,7 @@ pub fn class_flags_of(tables: &[u8], layout: &Layout, class: ClassNumber) -> Rep
     ensures { λ r.
         ⌜ ((strings blob : List ℕ) → Numbered (classFlags (viewIn (now (tables .entry)) (now (layout .entry)) strings blob) (class .0)) r) ⌝ }
 {
-    match listed::class_row(layout, class) {
+    match places::class_row(layout, class) {
         ClassRow::Row(row) => {
             let place = row.0 - 1;
             let flags = rows::read_column(tables, layout, columns::TYPE_FLAGS, place as usize);
@@ -41,7 +41,7 @@ pub fn write_class_name(
         ⌜ ((blob : List ℕ) → Named (className (viewIn (now (tables .entry)) (now (layout .entry)) (now (strings .entry)) blob) (class .0))
         (now (buf .entry)) r (now (buf .exit))) ⌝ }
 {
-    match listed::class_row(layout, class) {
+    match places::class_row(layout, class) {
         ClassRow::Row(row) => {
             match names::push_class_name(buf, 0, tables, strings, layout, row) {
                 Place::Next(end) => buffers::finish(buf, end),
@@ -58,9 +58,9 @@ pub fn count_generics_of(tables: &[u8], layout: &Layout, class: ClassNumber) -> 
     ensures { λ r.
         ⌜ ((strings blob : List ℕ) → Numbered (genericCount (viewIn (now (tables .entry)) (now (layout .entry)) strings blob) (class .0)) r) ⌝ }
 {
-    match listed::class_row(layout, class) {
+    match places::class_row(layout, class) {
         ClassRow::Row(row) => {
-            Reply::Is(listed::count_generics(tables, layout, 2 * (row.0 as usize)))
+            Reply::Is(places::count_generics(tables, layout, 2 * (row.0 as usize)))
         }
         ClassRow::NoRow => Reply::No(Refusal::NoSuchRow),
     }
@@ -80,10 +80,10 @@ pub fn write_generic_name(
         ⌜ ((blob : List ℕ) → Named (genericName (viewIn (now (tables .entry)) (now (layout .entry)) (now (strings .entry)) blob) (class .0) g)
         (now (buf .entry)) r (now (buf .exit))) ⌝ }
 {
-    match listed::class_row(layout, class) {
+    match places::class_row(layout, class) {
         ClassRow::Row(row) => {
             let owner = 2 * (row.0 as usize);
-            listed::write_generic(buf, tables, strings, layout, owner, g)
+            places::write_generic(buf, tables, strings, layout, owner, g)
         }
         ClassRow::NoRow => buffers::refuse(buf, Refusal::NoSuchRow),
     }
@@ -101,7 +101,7 @@ pub fn count_bases_of(
     ensures { λ r. let v = viewIn (now (tables .entry)) (now (layout .entry)) (now (strings .entry)) (now (blob .entry)) in
         ⌜ Numbered (baseCount v (class .0)) r ⌝ }
 {
-    match listed::class_row(layout, class) {
+    match places::class_row(layout, class) {
         ClassRow::Row(row) => Reply::Is(bases::count_bases(tables, strings, blob, layout, row)),
         ClassRow::NoRow => Reply::No(Refusal::NoSuchRow),
     }
@@ -121,7 +121,7 @@ pub fn write_base_name(
     ensures { λ r. let v = viewIn (now (tables .entry)) (now (layout .entry)) (now (strings .entry)) (now (blob .entry)) in
         ⌜ Named (baseName v (class .0) b) (now (buf .entry)) r (now (buf .exit)) ⌝ }
 {
-    match listed::class_row(layout, class) {
+    match places::class_row(layout, class) {
         ClassRow::Row(row) => {
             let nth = b as usize;
             match bases::render_base(buf, tables, strings, blob, layout, row, nth) {

@@ -18,7 +18,7 @@ pub fn class_count(tables: &[u8], strings: &[u8], blob: &[u8], options: Options)
     let layout = found.layout;
     match answer {
         Opened::Refused(why) => Reply::No(why),
-        Opened::Ready => Reply::Is(listed::count_classes(&layout)),
+        Opened::Ready => Reply::Is(places::count_classes(&layout)),
     }
 }
 

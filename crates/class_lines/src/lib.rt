@@ -68,7 +68,7 @@ pub fn classes_line(
     ensures { λ r. let v = viewIn (now (tables .entry)) (now (layout .entry)) (now (strings .entry)) (now (blob .entry)) in
         ⌜ ((c m i : ℕ) → Stepped v (cursor Classes c m i) (now (out .entry)) at (now (out .exit)) r) ⌝ }
 {
-    let reply = Reply::Is(listed::count_classes(layout));
+    let reply = Reply::Is(places::count_classes(layout));
     lines::number_step(
         out,
         at,

@@ -7,7 +7,7 @@ use heaps::Heap;
 use tables::Extents;
 ghost use mathlib.Core.Path.{_≡_};
 ghost use Rattle.buffers.specs.Replies.{Named};
-ghost use Rattle.header.specs.Opening.{base};
+ghost use Rattle.header.specs.Stream.{base};
 ghost use Rattle.heaps.specs.Lookups.{Looked};
 ghost use Rattle.tables.specs.Extents.{walkSays, walkOf};
 ghost use Rattle.record.specs.View.{view};

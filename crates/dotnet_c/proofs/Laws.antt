@@ -5,7 +5,7 @@ use mathlib.Core.List.{List}
 use Prim.Native.Nat.{ℕ}
 use Rattle.buffers.specs.Replies.{replySays, Named}
 use Rattle.buffers.specs.declared.Reply.{Reply}
-use Rattle.header.specs.Opening.{base}
+use Rattle.header.specs.Stream.{base}
 use Rattle.header.specs.declared.Options.{Options}
 use Rattle.record.specs.View.{view}
 use Rattle.record.specs.Answers.{NumberCall, numberAnswer, NameCall, nameAnswer, Numbered}

@@ -6,7 +6,7 @@ use c_replies::DnReply;
 use classes::ClassNumber;
 use header::base_options;
 ghost use mathlib.Core.Path.{_≡_};
-ghost use Rattle.header.specs.Opening.{base};
+ghost use Rattle.header.specs.Stream.{base};
 ghost use Rattle.tables.specs.Extents.{walkOf};
 ghost use Rattle.record.specs.View.{view};
 ghost use Rattle.record.specs.Answers.{classCount, classFlags, className, genericCount, genericName, baseCount, baseName, methodCount, methodFlags, methodName, methodGenericCount, methodGenericName, returnType, parameterCount, parameterType, parameterName};

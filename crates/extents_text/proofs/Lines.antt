@@ -14,7 +14,7 @@ use Rattle.buffers.specs.declared.Refusal.the-variants.{BadInput}
 use Rattle.bundle.specs.Input.{bundleOf}
 use Rattle.bundle.specs.declared.Part.{Part}
 use Rattle.bundle.specs.declared.Bundle.the-variants.{Streams, Malformed}
-use Rattle.header.specs.Opening.{base}
+use Rattle.header.specs.Stream.{base}
 use Rattle.tables.specs.Extents.{Walked, walkOf}
 use Rattle.extents_text.specs.Lines.{kindLine, kindLines, keyLine, walkText, inputText, extentsText}
 

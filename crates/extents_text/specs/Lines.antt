@@ -7,7 +7,7 @@ use lib.ListN.{getD}
 use Rattle.buffers.specs.Texts.{Text, q, decimal}
 use Rattle.buffers.specs.Replies.{Answer, refused, value}
 use Rattle.bundle.specs.Input.{Inputs, bundleOf, bundleSays}
-use Rattle.header.specs.Opening.{base}
+use Rattle.header.specs.Stream.{base}
 use Rattle.tables.specs.Extents.{Walked, walkOf}
 
 abbrev pub blank : Text

@@ -12,7 +12,7 @@ use Rattle.numbers.specs.Fixed.{leAt}
 use Rattle.numbers.proofs.Bits.{ones-next, ones-rise}
 use Rattle.numbers.proofs.Fixed.{leAt-same}
 use Rattle.numbers.proofs.Lists.{tabulate-same}
-use Rattle.header.specs.Opening.{valid, rowCount, rowCounts, countsEnd, overLimit, opened}
+use Rattle.header.specs.Stream.{valid, rowCount, rowCounts, countsEnd, overLimit, opened}
 use Rattle.header.specs.declared.Options.{Options}
 
 -- Each set bit below 64 has its 4 bytes before the end of the counts.

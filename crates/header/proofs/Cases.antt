@@ -12,7 +12,7 @@ use lib.ListN.{length, getD, getD-replicate}
 use Rattle.numbers.specs.Bits.{bitAt, onesBelow}
 use Rattle.numbers.proofs.Lists.{table-at}
 use Rattle.buffers.specs.declared.Refusal.the-variants.{ShortHeader, ShortCounts, TooManyRows}
-use Rattle.header.specs.Opening.{heapSizes, valid, rowCount, rowCounts, countsEnd, tablesStart, overLimit, refusedHeader, opened}
+use Rattle.header.specs.Stream.{heapSizes, valid, rowCount, rowCounts, countsEnd, tablesStart, overLimit, refusedHeader, opened}
 use Rattle.header.specs.declared.Options.{Options}
 use Rattle.header.specs.declared.Header.{Header}
 use Rattle.header.specs.declared.Opened.the-variants.{Ready}

@@ -16,7 +16,7 @@ use Rattle.numbers.specs.Bits.{bitAt, onesBelow}
 use Rattle.numbers.specs.Fixed.{leAt}
 use Rattle.numbers.proofs.Bits.{halved-start, halved, low-bit, bit-clear, ones-set, ones-clear, ones-rise}
 use Rattle.numbers.proofs.Lists.{table-is}
-use Rattle.header.specs.Opening.{valid, rowCount, rowCounts, countsEnd, overLimit, CountsRead}
+use Rattle.header.specs.Stream.{valid, rowCount, rowCounts, countsEnd, overLimit, CountsRead}
 
 pub record Counting (limit : ℕ) (s counts : List ℕ) (m at kind : ℕ) : Type 0 where
   pub low : kind ≤ 64

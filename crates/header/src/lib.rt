@@ -1,11 +1,11 @@
-// Opening the tables stream: its header and row counts (ECMA-335 II.24.2.6), or why it is refused.
+// The header of the tables stream and its row counts (ECMA-335 II.24.2.6), or why the stream is refused.
 use buffers::Refusal;
 ghost use mathlib.Core.Path.{_≡_};
 ghost use mathlib.Core.Bool.{true};
 ghost use Prim.Native.Nat.{_+_, _*_, _≤_, min};
 ghost use lib.ListN.{length};
 ghost use Rattle.numbers.specs.Bits.{bitAt, onesBelow};
-ghost use Rattle.header.specs.Opening.{base, valid, countsEnd, refusedHeader, opened, CountsRead};
+ghost use Rattle.header.specs.Stream.{base, valid, countsEnd, refusedHeader, opened, CountsRead};
 
 // How a stream is opened: the most rows that a table may have, and whether DeclSecurity counts for HasCustomAttribute, as in the
 // standard.
@@ -101,7 +101,7 @@ fn tables_start(len: usize, end: usize, heap: u8) -> usize
     end + 4
 }
 
-pub fn open_stream(s: &[u8], options: Options) -> Header
+pub fn read_header(s: &[u8], options: Options) -> Header
     ensures { λ r. ⌜ r ≡ opened options (now (s .entry)) ⌝ }
 {
     if s.len() < 24 {

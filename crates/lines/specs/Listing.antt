@@ -6,7 +6,7 @@ use lib.ListN.{length}
 use Rattle.buffers.specs.Texts.{Text, q}
 use Rattle.buffers.specs.Replies.{Answer, refused, value}
 use Rattle.bundle.specs.Input.{bundleOf, bundleSays}
-use Rattle.header.specs.Opening.{base}
+use Rattle.header.specs.Stream.{base}
 use Rattle.record.specs.View.{View, view}
 use Rattle.record.specs.Record.{Parameter, Method, Class}
 use Rattle.record.specs.Answers.{_⟫_, walkAnswer, theClasses}

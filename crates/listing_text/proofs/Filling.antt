@@ -18,7 +18,7 @@ use Rattle.buffers.specs.declared.Refusal.the-variants.{BadInput}
 use Rattle.bundle.specs.Input.{bundleOf}
 use Rattle.bundle.specs.declared.Part.{Part}
 use Rattle.bundle.specs.declared.Bundle.the-variants.{Streams, Malformed}
-use Rattle.header.specs.Opening.{base}
+use Rattle.header.specs.Stream.{base}
 use Rattle.header.specs.declared.Options.{Options}
 use Rattle.record.specs.View.{View, view}
 use Rattle.lines.specs.Lines.{refusedLine}

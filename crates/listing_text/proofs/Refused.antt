@@ -14,7 +14,7 @@ use Rattle.buffers.specs.Replies.{number, refused}
 use Rattle.buffers.specs.declared.Refusal.{Refusal}
 use Rattle.buffers.specs.declared.Refusal.the-variants.{ShortHeader, ShortCounts, TooManyRows}
 use Rattle.buffers.proofs.Writing.{wrote-none}
-use Rattle.header.specs.Opening.{opened, countsEnd, overLimit, refusedHeader}
+use Rattle.header.specs.Stream.{opened, countsEnd, overLimit, refusedHeader}
 use Rattle.header.specs.declared.Header.{Header}
 use Rattle.header.specs.declared.Options.{Options}
 use Rattle.header.specs.declared.Opened.the-variants.{Refused, Ready}

@@ -9,7 +9,7 @@ use Rattle.buffers.specs.Texts.{Text}
 use Rattle.buffers.specs.Writes.{Wrote}
 use Rattle.buffers.specs.Replies.{Answer, refused, value, nameBuffer}
 use Rattle.bundle.specs.Input.{Inputs, bundleOf, bundleSays}
-use Rattle.header.specs.Opening.{base}
+use Rattle.header.specs.Stream.{base}
 use Rattle.record.specs.View.{View, view}
 use Rattle.lines.specs.Lines.{refusedLine}
 use Rattle.lines.specs.Cursors.{done, lineAt, nextAt}

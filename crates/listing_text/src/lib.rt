@@ -12,7 +12,7 @@ ghost use mathlib.Core.Path.{_≡_};
 ghost use mathlib.Core.List.{List};
 ghost use Prim.Native.Nat.{ℕ};
 ghost use lib.ListN.{length};
-ghost use Rattle.header.specs.Opening.{opened};
+ghost use Rattle.header.specs.Stream.{opened};
 ghost use Rattle.header.specs.declared.Options.{Options as Opts};
 ghost use Rattle.header.specs.declared.Opened.the-variants.{Refused};
 ghost use Rattle.record.specs.View.{View, view};

@@ -10,7 +10,7 @@ use Rattle.buffers.specs.Replies.{Answer, refused, value, number}
 use Rattle.buffers.specs.declared.Refusal.the-variants.{BadInput}
 use Rattle.bundle.specs.Input.{Inputs, bundleOf, bundleSays, inputOf}
 use Rattle.bundle.proofs.Made.{opens}
-use Rattle.header.specs.Opening.{base}
+use Rattle.header.specs.Stream.{base}
 use Rattle.record.specs.View.{view}
 use Rattle.record.specs.Rearrangement.{Rearranged}
 use Rattle.record.specs.Answers.{_⟫_}

@@ -15,7 +15,7 @@ use Rattle.numbers.proofs.Lists.{tabulate-length, tabulate-item}
 use Rattle.numbers.proofs.Pick.{pick, pick-lt}
 use Rattle.buffers.specs.Texts.{Text}
 use Rattle.heaps.specs.Lookups.{blob, string}
-use Rattle.header.specs.Opening.{base, opened}
+use Rattle.header.specs.Stream.{base, opened}
 use Rattle.header.proofs.Cases.{few-counted}
 use Rattle.layouts.specs.Kinds.{typeDef, methodDef, interfaceImpl, genericParam}
 use Rattle.tables.specs.Extents.{keptRows, sizesIn}

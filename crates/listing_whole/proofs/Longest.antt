@@ -15,7 +15,7 @@ use Rattle.buffers.specs.Texts.{Text, q, digits, decimal}
 use Rattle.buffers.specs.Replies.{number, Answer, refused, value}
 use Rattle.buffers.specs.declared.Refusal.{Refusal}
 use Rattle.buffers.specs.declared.Refusal.the-variants.{ShortHeader, ShortCounts, TooManyRows, NoSuchRow, NoName, BufferTooSmall, NotFound, BadInput}
-use Rattle.header.specs.Opening.{base, opened}
+use Rattle.header.specs.Stream.{base, opened}
 use Rattle.header.specs.declared.Options.{Options}
 use Rattle.header.specs.declared.Header.{Header}
 use Rattle.header.specs.declared.Opened.{Opened}

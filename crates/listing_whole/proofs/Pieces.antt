@@ -15,7 +15,7 @@ use Rattle.buffers.specs.declared.Refusal.the-variants.{BadInput}
 use Rattle.bundle.specs.Input.{Inputs, bundleOf, bundleSays}
 use Rattle.bundle.specs.declared.Bundle.{Bundle}
 use Rattle.bundle.specs.declared.Bundle.the-variants.{Streams, Malformed}
-use Rattle.header.specs.Opening.{base}
+use Rattle.header.specs.Stream.{base}
 use Rattle.record.specs.View.{View, view}
 use Rattle.record.specs.Answers.{_⟫_}
 use Rattle.lines.specs.Lines.{refusedLine}

@@ -3,7 +3,7 @@ use mathlib.Core.Path.{_≡_}
 use mathlib.Core.List.{List}
 use Prim.Native.Nat.{ℕ}
 use Rattle.bundle.specs.Input.{inputOf}
-use Rattle.header.specs.Opening.{base}
+use Rattle.header.specs.Stream.{base}
 use Rattle.header.specs.declared.Options.{Options}
 use Rattle.record.specs.View.{view}
 use Rattle.record.specs.Rearrangement.{Rearranged}

@@ -8,7 +8,7 @@ use lib.ListN.{length, getD}
 use Rattle.buffers.specs.Texts.{Text, q}
 use Rattle.buffers.specs.Replies.{number}
 use Rattle.buffers.specs.declared.Refusal.the-variants.{BadInput}
-use Rattle.header.specs.Opening.{base}
+use Rattle.header.specs.Stream.{base}
 use Rattle.record.specs.View.{View, view}
 use Rattle.lines.specs.Lines.{longest, refusedLine}
 use Rattle.lines.specs.Listing.{listing, listingOf}

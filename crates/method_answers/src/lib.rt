@@ -2,8 +2,8 @@
 use buffers::Refusal;
 use buffers::Reply;
 use classes::ClassNumber;
-use listed::ClassRow;
-use listed::MethodRow;
+use places::ClassRow;
+use places::MethodRow;
 use rows::Layout;
 use rows::columns;
 ghost use mathlib.Core.List.{List};
@@ -18,7 +18,7 @@ pub fn count_methods_of(tables: &[u8], layout: &Layout, class: ClassNumber) -> R
     ensures { λ r.
         ⌜ ((strings blob : List ℕ) → Numbered (methodCount (viewIn (now (tables .entry)) (now (layout .entry)) strings blob) (class .0)) r) ⌝ }
 {
-    match listed::class_row(layout, class) {
+    match places::class_row(layout, class) {
         ClassRow::Row(row) => {
             let range = methods::method_range(tables, layout, row);
             Reply::Is(range.end - range.first)
@@ -33,7 +33,7 @@ pub fn method_flags_of(tables: &[u8], layout: &Layout, class: ClassNumber, m: u3
     ensures { λ r.
         ⌜ ((strings blob : List ℕ) → Numbered (methodFlags (viewIn (now (tables .entry)) (now (layout .entry)) strings blob) (class .0) m) r) ⌝ }
 {
-    match listed::method_row(tables, layout, class, m) {
+    match places::method_row(tables, layout, class, m) {
         MethodRow::Row(i) => {
             let flags = rows::read_column(tables, layout, columns::METHOD_FLAGS, i);
             Reply::Is(flags as usize)
@@ -56,7 +56,7 @@ pub fn write_method_name(
         ⌜ ((blob : List ℕ) → Named (methodName (viewIn (now (tables .entry)) (now (layout .entry)) (now (strings .entry)) blob) (class .0) m)
         (now (buf .entry)) r (now (buf .exit))) ⌝ }
 {
-    match listed::method_row(tables, layout, class, m) {
+    match places::method_row(tables, layout, class, m) {
         MethodRow::Row(i) => {
             rows::write_string(buf, tables, strings, layout, columns::METHOD_NAME, i)
         }
@@ -71,8 +71,8 @@ pub fn count_method_generics_of(tables: &[u8], layout: &Layout, class: ClassNumb
         ⌜ ((strings blob : List ℕ) → Numbered
         (methodGenericCount (viewIn (now (tables .entry)) (now (layout .entry)) strings blob) (class .0) m) r) ⌝ }
 {
-    match listed::method_row(tables, layout, class, m) {
-        MethodRow::Row(i) => { Reply::Is(listed::count_generics(tables, layout, 2 * (i + 1) + 1)) }
+    match places::method_row(tables, layout, class, m) {
+        MethodRow::Row(i) => { Reply::Is(places::count_generics(tables, layout, 2 * (i + 1) + 1)) }
         MethodRow::NoRow => Reply::No(Refusal::NoSuchRow),
     }
 }
@@ -93,10 +93,10 @@ pub fn write_method_generic_name(
         (methodGenericName (viewIn (now (tables .entry)) (now (layout .entry)) (now (strings .entry)) blob) (class .0) m g)
         (now (buf .entry)) r (now (buf .exit))) ⌝ }
 {
-    match listed::method_row(tables, layout, class, m) {
+    match places::method_row(tables, layout, class, m) {
         MethodRow::Row(i) => {
             let owner = 2 * (i + 1) + 1;
-            listed::write_generic(buf, tables, strings, layout, owner, g)
+            places::write_generic(buf, tables, strings, layout, owner, g)
         }
         MethodRow::NoRow => buffers::refuse(buf, Refusal::NoSuchRow),
     }
@@ -116,7 +116,7 @@ pub fn write_return_type_of(
     ensures { λ r. let v = viewIn (now (tables .entry)) (now (layout .entry)) (now (strings .entry)) (now (blob .entry)) in
         ⌜ Named (returnType v (class .0) m) (now (buf .entry)) r (now (buf .exit)) ⌝ }
 {
-    match listed::method_row(tables, layout, class, m) {
+    match places::method_row(tables, layout, class, m) {
         MethodRow::Row(i) => method_signatures::write_return_type(
             buf,
             tables,
@@ -142,7 +142,7 @@ pub fn count_params_of(
     ensures { λ r. let v = viewIn (now (tables .entry)) (now (layout .entry)) (now (strings .entry)) (now (blob .entry)) in
         ⌜ Numbered (parameterCount v (class .0) m) r ⌝ }
 {
-    match listed::method_row(tables, layout, class, m) {
+    match places::method_row(tables, layout, class, m) {
         MethodRow::Row(i) => Reply::Is(method_signatures::count_params(
             tables,
             strings,
@@ -169,7 +169,7 @@ pub fn write_param_type_of(
     ensures { λ r. let v = viewIn (now (tables .entry)) (now (layout .entry)) (now (strings .entry)) (now (blob .entry)) in
         ⌜ Named (parameterType v (class .0) m p) (now (buf .entry)) r (now (buf .exit)) ⌝ }
 {
-    match listed::method_row(tables, layout, class, m) {
+    match places::method_row(tables, layout, class, m) {
         MethodRow::Row(i) => method_signatures::write_param_type(
             buf,
             tables,
@@ -198,7 +198,7 @@ pub fn write_param_name_of(
     ensures { λ r. let v = viewIn (now (tables .entry)) (now (layout .entry)) (now (strings .entry)) (now (blob .entry)) in
         ⌜ Named (parameterName v (class .0) m p) (now (buf .entry)) r (now (buf .exit)) ⌝ }
 {
-    match listed::method_row(tables, layout, class, m) {
+    match places::method_row(tables, layout, class, m) {
         MethodRow::Row(i) => method_signatures::write_param_name(
             buf,
             tables,

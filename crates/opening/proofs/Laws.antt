@@ -7,7 +7,7 @@ use native.Mathlib.Omega.{arith}
 use lib.Dec.{eqb}
 use lib.ListN.{length, replicate}
 use Rattle.buffers.specs.declared.Refusal.{Refusal}
-use Rattle.header.specs.Opening.{opened}
+use Rattle.header.specs.Stream.{opened}
 use Rattle.header.specs.declared.Options.{Options}
 use Rattle.header.specs.declared.Header.{Header}
 use Rattle.header.specs.declared.Opened.{Opened}

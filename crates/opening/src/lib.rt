@@ -110,7 +110,7 @@ fn refuse(why: Refusal) -> Opening
 pub fn open(tables: &[u8], options: Options) -> Opening
     ensures { λ r. ⌜ OpenedAs options (now (tables .entry)) (r .answer) (r .layout) ⌝ }
 {
-    let h = header::open_stream(tables, options);
+    let h = header::read_header(tables, options);
     let answer = h.answer;
     let first = h.first;
     let heap = h.heap;

@@ -2,7 +2,7 @@
 use mathlib.Core.Path.{refl}
 use Rattle.numbers.specs.Fixed.{leAt}
 use Rattle.numbers.specs.Bits.{bitAt, onesBelow}
-use Rattle.header.specs.Opening.{rowCount, overLimit, opened}
+use Rattle.header.specs.Stream.{rowCount, overLimit, opened}
 use Rattle.layouts.specs.Columns.{tables, reaches, indexSize, heapSize, hasCustomAttribute, indexSizes, sumOf, rowSize}
 use Rattle.numbers.specs.Lists.{tabulate}
 use Rattle.tables.specs.Extents.{startOf, isTable, passes, stopFrom, stopKind, wholeRows, ifReached, walked, walkReply, extent, onlyEntire, keptRows}

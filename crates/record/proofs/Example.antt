@@ -9,7 +9,7 @@ use lib.ListN.{getD, List·getD-append, List·getD-eq-default}
 use lib.Seq.{getD-drop}
 use Rattle.numbers.specs.Fixed.{leAt}
 use Rattle.numbers.specs.Bits.{bitAt, onesBelow}
-use Rattle.header.specs.Opening.{rowCount, overLimit, opened, base}
+use Rattle.header.specs.Stream.{rowCount, overLimit, opened, base}
 use Rattle.layouts.specs.Columns.{tables, reaches, indexSize, heapSize, hasCustomAttribute, indexSizes, sumOf, rowSize}
 use Rattle.numbers.specs.Lists.{tabulate}
 use Rattle.tables.specs.Extents.{startOf, isTable, passes, stopFrom, stopKind, wholeRows, ifReached, walked, Extent, sizesIn, walkReply, extent, onlyEntire, keptRows}

@@ -9,7 +9,7 @@ use native.Mathlib.Omega.{arith}
 use lib.Dec.{ltb}
 use lib.ListN.{length, getD}
 use borrow.Author.Tests.{ltb-true}
-use Rattle.header.specs.Opening.{countsEnd, opened}
+use Rattle.header.specs.Stream.{countsEnd, opened}
 use Rattle.tables.specs.Extents.{extent, keptRows}
 use Rattle.record.specs.Rows.{rowBytes}
 use Rattle.header.specs.declared.Options.{Options}

@@ -22,7 +22,7 @@ use Rattle.buffers.specs.Texts.{Text}
 use Rattle.record.specs.Namespaces.{fullName, nameOf, nest}
 use Rattle.header.specs.declared.Options.{Options}
 use Rattle.record.specs.View.{View, view, viewOf, place, otherRow}
-use Rattle.header.specs.Opening.{opened}
+use Rattle.header.specs.Stream.{opened}
 use Rattle.record.specs.Names.{rowsIn, classes, classRow, methodRow}
 use Rattle.record.specs.Methods.{takes, leftOver}
 use Rattle.record.proofs.Keyed.{cut}

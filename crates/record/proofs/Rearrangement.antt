@@ -12,7 +12,7 @@ use Rattle.record.specs.Rows.{rowBytes, runs, ofKey}
 use Rattle.record.specs.Namespaces.{nest, ownNamespace}
 use Rattle.header.specs.declared.Options.{Options}
 use Rattle.record.specs.View.{view, viewOf, place, otherRow, sideRow, sideRows}
-use Rattle.header.specs.Opening.{opened}
+use Rattle.header.specs.Stream.{opened}
 use Rattle.record.specs.Rearrangement.{Rearranged, Whole}
 use Rattle.record.proofs.Keyed.{ofKey-moved}
 use Rattle.record.proofs.Nested.{nest-moved}

@@ -15,7 +15,7 @@ use Rattle.tables.specs.Extents.{Extent, sizesIn, extent, keptRows, onlyEntire}
 use Rattle.record.specs.Rows.{rowBytes, ofKey}
 use Rattle.header.specs.declared.Options.{Options}
 use Rattle.record.specs.View.{view, viewOf, place}
-use Rattle.header.specs.Opening.{opened}
+use Rattle.header.specs.Stream.{opened}
 use Rattle.record.specs.Names.{classes, classIndex}
 use Rattle.record.specs.Record.{class}
 use Rattle.record.specs.Rearrangement.{Swapped, Elsewhere}

@@ -15,7 +15,7 @@ use Rattle.buffers.specs.Texts.{Text, q}
 use Rattle.record.specs.Types.{Env, type}
 use Rattle.tables.specs.Extents.{sizesIn}
 use Rattle.record.specs.View.{View, view}
-use Rattle.header.specs.Opening.{base, opened}
+use Rattle.header.specs.Stream.{base, opened}
 use Rattle.record.specs.Names.{levels}
 use Rattle.record.specs.Record.{Method, classRecord}
 use Rattle.buffers.specs.Replies.{refused, value, nameReply, nameBuffer}

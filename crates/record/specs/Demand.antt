@@ -11,7 +11,7 @@ use Rattle.record.specs.Columns.{owner, genericName}
 use Rattle.tables.specs.Extents.{sizesIn}
 use Rattle.header.specs.declared.Options.{Options}
 use Rattle.record.specs.View.{View, view, sideRow}
-use Rattle.header.specs.Opening.{opened}
+use Rattle.header.specs.Stream.{opened}
 use Rattle.record.specs.Names.{classIndex}
 use Rattle.record.specs.Record.{class, classRecord}
 use Rattle.buffers.specs.Replies.{Named}

@@ -6,7 +6,7 @@ use mathlib.Core.List.{List, [], _∷_, _++_}
 use mathlib.Core.Option.{some}
 use Prim.Native.Nat.{ℕ}
 use Rattle.buffers.specs.Texts.{q}
-use Rattle.header.specs.Opening.{base}
+use Rattle.header.specs.Stream.{base}
 use Rattle.record.specs.View.{view}
 use Rattle.record.specs.Record.{classRecord}
 use Rattle.record.specs.Rearrangement.{Rearranged, Swapped}

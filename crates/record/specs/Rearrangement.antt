@@ -13,7 +13,7 @@ use Rattle.tables.specs.Extents.{Extent, sizesIn}
 use Rattle.tables.specs.Apart.{Inside}
 use Rattle.record.specs.Rows.{count, rowBytes}
 use Rattle.header.specs.declared.Options.{Options}
-use Rattle.header.specs.Opening.{opened}
+use Rattle.header.specs.Stream.{opened}
 use Rattle.record.specs.View.{isSide, place}
 
 -- The places below n paired one to one: `to` gives an old place's new one, `from` a new place's old one.

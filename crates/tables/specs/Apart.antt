@@ -3,7 +3,7 @@ use mathlib.Core.Path.{_≡_}
 use mathlib.Core.List.{List}
 use Prim.Native.Nat.{ℕ, _+_, _*_, _≤_, _<_}
 use lib.ListN.{length}
-use Rattle.header.specs.Opening.{opened, countsEnd}
+use Rattle.header.specs.Stream.{opened, countsEnd}
 use Rattle.header.specs.declared.Options.{Options}
 use Rattle.tables.specs.Extents.{Extent, extent}
 

@@ -8,7 +8,7 @@ use lib.Dec.{ltb, leb, eqb}
 use lib.ListN.{length, getD, replicate}
 use Rattle.numbers.specs.Lists.{tabulate}
 use Rattle.buffers.specs.Replies.{Answer, refused, value, replySays, number}
-use Rattle.header.specs.Opening.{opened}
+use Rattle.header.specs.Stream.{opened}
 use Rattle.header.specs.declared.Options.{Options}
 use Rattle.header.specs.declared.Header.{Header}
 use Rattle.header.specs.declared.Opened.{Opened}

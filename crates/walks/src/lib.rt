@@ -4,14 +4,14 @@ use header::Opened;
 use header::Options;
 use tables::Extents;
 ghost use mathlib.Core.Path.{_≡_};
-ghost use Rattle.header.specs.Opening.{base};
+ghost use Rattle.header.specs.Stream.{base};
 ghost use Rattle.tables.specs.Extents.{walkSays, walkOf};
 
 // The walk over a stream that is opened with these options.
 pub fn walk_with(tables: &[u8], options: Options) -> Extents
     ensures { λ r. ⌜ walkSays r ≡ walkOf options (now (tables .entry)) ⌝ }
 {
-    let h = header::open_stream(tables, options);
+    let h = header::read_header(tables, options);
     let answer = h.answer;
     let counts = h.counts;
     let first = h.first;

@@ -2,13 +2,13 @@ use mathlib.Core.Path.{refl}
 use native.Mathlib.Omega.{arith}
 use borrow.Author.Needs.{needs}
 use Rattle.rows.proofs.Laws.{rows-narrow, same-rows}
-use Rattle.listed.proofs.Laws.{class-found, class-missed}
-use Rattle.listed.proofs.Values.{class-flags, no-class-flags}
+use Rattle.places.proofs.Laws.{class-found, class-missed}
+use Rattle.places.proofs.Values.{class-flags, no-class-flags}
 use Rattle.class_answers.proofs.class_flags_of.Statement.{statement}
 use Rattle.class_answers.proofs.class_flags_of.Tie as tie
 use Rattle.class_answers.proofs.class_flags_of.Reads as reads
 use Rattle.class_answers.proofs.class_flags_of.Lts as lts
-use Rattle.listed.proofs.class_row.Reads as class-row-reads
+use Rattle.places.proofs.class_row.Reads as class-row-reads
 use Rattle.rows.proofs.read_column.Reads as read-column-reads
 use Rattle.rows.specs.Columns as columns
 

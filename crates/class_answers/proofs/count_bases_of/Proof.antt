@@ -1,14 +1,14 @@
 use native.Mathlib.Omega.{arith}
 use borrow.Author.Needs.{needs}
 use Rattle.rows.proofs.Laws.{rows-narrow}
-use Rattle.listed.proofs.Laws.{class-found, class-missed}
+use Rattle.places.proofs.Laws.{class-found, class-missed}
 use Rattle.class_answers.proofs.Bases.{class-bases, no-class-bases}
 use Rattle.class_answers.proofs.count_bases_of.Statement.{statement}
 use Rattle.class_answers.proofs.count_bases_of.Tie as tie
 use Rattle.class_answers.proofs.count_bases_of.Reads as reads
 use Rattle.class_answers.proofs.count_bases_of.Lts as lts
 use Rattle.bases.proofs.count_bases.Reads as count-bases-reads
-use Rattle.listed.proofs.class_row.Reads as class-row-reads
+use Rattle.places.proofs.class_row.Reads as class-row-reads
 use Rattle.rows.specs.Columns as columns
 
 -- src/lib.rt:97:11

@@ -1,14 +1,14 @@
 use native.Mathlib.Omega.{arith}
 use borrow.Author.Needs.{needs}
 use Rattle.rows.proofs.Laws.{rows-narrow}
-use Rattle.listed.proofs.Laws.{class-found, class-missed}
-use Rattle.listed.proofs.Values.{class-generics, no-class-generics}
+use Rattle.places.proofs.Laws.{class-found, class-missed}
+use Rattle.places.proofs.Values.{class-generics, no-class-generics}
 use Rattle.class_answers.proofs.count_generics_of.Statement.{statement}
 use Rattle.class_answers.proofs.count_generics_of.Tie as tie
 use Rattle.class_answers.proofs.count_generics_of.Reads as reads
 use Rattle.class_answers.proofs.count_generics_of.Lts as lts
-use Rattle.listed.proofs.class_row.Reads as class-row-reads
-use Rattle.listed.proofs.count_generics.Reads as count-generics-reads
+use Rattle.places.proofs.class_row.Reads as class-row-reads
+use Rattle.places.proofs.count_generics.Reads as count-generics-reads
 use Rattle.rows.specs.Columns as columns
 
 -- src/lib.rt:57:11

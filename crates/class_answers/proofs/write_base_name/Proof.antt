@@ -3,7 +3,7 @@ use native.Mathlib.Omega.{arith}
 use borrow.Author.Needs.{needs}
 use Rattle.buffers.specs.Writes.{placeSays}
 use Rattle.rows.proofs.Laws.{rows-narrow}
-use Rattle.listed.proofs.Laws.{class-found, class-missed}
+use Rattle.places.proofs.Laws.{class-found, class-missed}
 use Rattle.class_answers.proofs.Bases.{class-base, class-no-base, no-class-base}
 use Rattle.class_answers.proofs.write_base_name.Statement.{statement}
 use Rattle.class_answers.proofs.write_base_name.Tie as tie
@@ -12,7 +12,7 @@ use Rattle.class_answers.proofs.write_base_name.Lts as lts
 use Rattle.bases.proofs.render_base.Reads as render-base-reads
 use Rattle.buffers.proofs.finish.Reads as finish-reads
 use Rattle.buffers.proofs.refuse.Reads as refuse-reads
-use Rattle.listed.proofs.class_row.Reads as class-row-reads
+use Rattle.places.proofs.class_row.Reads as class-row-reads
 use Rattle.rows.specs.Columns as columns
 
 -- src/lib.rt:116:11

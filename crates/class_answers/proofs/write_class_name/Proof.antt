@@ -4,15 +4,15 @@ use borrow.Author.Needs.{needs}
 use Rattle.buffers.specs.Writes.{placeSays}
 use Rattle.buffers.proofs.Replies.{named-some, named-none}
 use Rattle.rows.proofs.Laws.{rows-narrow}
-use Rattle.listed.proofs.Laws.{class-found, class-missed}
-use Rattle.listed.proofs.Values.{class-name, no-class-name}
+use Rattle.places.proofs.Laws.{class-found, class-missed}
+use Rattle.places.proofs.Values.{class-name, no-class-name}
 use Rattle.class_answers.proofs.write_class_name.Statement.{statement}
 use Rattle.class_answers.proofs.write_class_name.Tie as tie
 use Rattle.class_answers.proofs.write_class_name.Reads as reads
 use Rattle.class_answers.proofs.write_class_name.Lts as lts
 use Rattle.buffers.proofs.finish.Reads as finish-reads
 use Rattle.buffers.proofs.refuse.Reads as refuse-reads
-use Rattle.listed.proofs.class_row.Reads as class-row-reads
+use Rattle.places.proofs.class_row.Reads as class-row-reads
 use Rattle.names.proofs.push_class_name.Reads as push-class-name-reads
 use Rattle.rows.specs.Columns as columns
 

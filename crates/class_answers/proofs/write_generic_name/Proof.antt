@@ -1,15 +1,15 @@
 use native.Mathlib.Omega.{arith}
 use borrow.Author.Needs.{needs}
 use Rattle.rows.proofs.Laws.{rows-narrow}
-use Rattle.listed.proofs.Laws.{class-found, class-missed}
-use Rattle.listed.proofs.Values.{class-generic, no-class-generic}
+use Rattle.places.proofs.Laws.{class-found, class-missed}
+use Rattle.places.proofs.Values.{class-generic, no-class-generic}
 use Rattle.class_answers.proofs.write_generic_name.Statement.{statement}
 use Rattle.class_answers.proofs.write_generic_name.Tie as tie
 use Rattle.class_answers.proofs.write_generic_name.Reads as reads
 use Rattle.class_answers.proofs.write_generic_name.Lts as lts
 use Rattle.buffers.proofs.refuse.Reads as refuse-reads
-use Rattle.listed.proofs.class_row.Reads as class-row-reads
-use Rattle.listed.proofs.write_generic.Reads as write-generic-reads
+use Rattle.places.proofs.class_row.Reads as class-row-reads
+use Rattle.places.proofs.write_generic.Reads as write-generic-reads
 use Rattle.rows.specs.Columns as columns
 
 -- src/lib.rt:77:11

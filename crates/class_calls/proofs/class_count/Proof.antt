@@ -3,12 +3,12 @@ use Rattle.buffers.specs.declared.Reply.the-variants.{Is}
 use Rattle.record.specs.Answers.{ClassCount}
 use Rattle.opening.proofs.Laws.{opened-laid}
 use Rattle.opening.proofs.Calls.{number-refused, number-ready}
-use Rattle.listed.proofs.Values.{class-counted}
+use Rattle.places.proofs.Values.{class-counted}
 use Rattle.class_calls.proofs.class_count.Statement.{statement}
 use Rattle.class_calls.proofs.class_count.Tie as tie
 use Rattle.class_calls.proofs.class_count.Reads as reads
 use Rattle.class_calls.proofs.class_count.Lts as lts
-use Rattle.listed.proofs.count_classes.Reads as count-classes-reads
+use Rattle.places.proofs.count_classes.Reads as count-classes-reads
 use Rattle.opening.proofs.open.Reads as open-reads
 
 -- src/lib.rt:16:9

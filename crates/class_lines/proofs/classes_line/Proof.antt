@@ -1,5 +1,5 @@
 use Rattle.buffers.specs.declared.Reply.the-variants.{Is}
-use Rattle.listed.proofs.Values.{class-counted}
+use Rattle.places.proofs.Values.{class-counted}
 use Rattle.lines.proofs.Stepping.{classes-goes}
 use borrow.Author.Needs.{needs}
 use Rattle.class_lines.proofs.classes_line.Statement.{statement}
@@ -8,7 +8,7 @@ use Rattle.class_lines.proofs.classes_line.Reads as reads
 use Rattle.class_lines.proofs.classes_line.Lts as lts
 use Rattle.lines.proofs.cursor_at.Reads as cursor-at-reads
 use Rattle.lines.proofs.number_step.Reads as number-step-reads
-use Rattle.listed.proofs.count_classes.Reads as count-classes-reads
+use Rattle.places.proofs.count_classes.Reads as count-classes-reads
 
 -- src/lib.rt:69:27
 count-classes-requires : tie.Need-count-classes-requires

@@ -1,14 +1,14 @@
 use mathlib.Core.List.{[]}
 use native.Mathlib.Omega.{arith}
 use borrow.Author.Needs.{needs}
-use Rattle.listed.proofs.Laws.{methods-narrow, method-found, method-missed}
-use Rattle.listed.proofs.Values.{method-generics, no-method-generics}
+use Rattle.places.proofs.Laws.{methods-narrow, method-found, method-missed}
+use Rattle.places.proofs.Values.{method-generics, no-method-generics}
 use Rattle.method_answers.proofs.count_method_generics_of.Statement.{statement}
 use Rattle.method_answers.proofs.count_method_generics_of.Tie as tie
 use Rattle.method_answers.proofs.count_method_generics_of.Reads as reads
 use Rattle.method_answers.proofs.count_method_generics_of.Lts as lts
-use Rattle.listed.proofs.count_generics.Reads as count-generics-reads
-use Rattle.listed.proofs.method_row.Reads as method-row-reads
+use Rattle.places.proofs.count_generics.Reads as count-generics-reads
+use Rattle.places.proofs.method_row.Reads as method-row-reads
 
 -- src/lib.rt:68:11
 method-row-requires : tie.Need-method-row-requires

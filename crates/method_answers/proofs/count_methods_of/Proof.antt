@@ -3,13 +3,13 @@ use mathlib.Core.List.{[]}
 use native.Mathlib.Omega.{arith}
 use borrow.Author.Needs.{needs}
 use Rattle.rows.proofs.Laws.{rows-narrow, same-rows}
-use Rattle.listed.proofs.Laws.{class-found, class-missed}
-use Rattle.listed.proofs.Values.{class-methods, no-class-methods}
+use Rattle.places.proofs.Laws.{class-found, class-missed}
+use Rattle.places.proofs.Values.{class-methods, no-class-methods}
 use Rattle.method_answers.proofs.count_methods_of.Statement.{statement}
 use Rattle.method_answers.proofs.count_methods_of.Tie as tie
 use Rattle.method_answers.proofs.count_methods_of.Reads as reads
 use Rattle.method_answers.proofs.count_methods_of.Lts as lts
-use Rattle.listed.proofs.class_row.Reads as class-row-reads
+use Rattle.places.proofs.class_row.Reads as class-row-reads
 use Rattle.methods.proofs.method_range.Reads as method-range-reads
 use Rattle.rows.specs.Columns as columns
 

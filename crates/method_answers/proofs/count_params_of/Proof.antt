@@ -1,14 +1,14 @@
 use mathlib.Core.List.{[]}
 use mathlib.Core.Path.{refl}
 use native.Mathlib.Omega.{arith}
-use Rattle.listed.proofs.Laws.{method-found, method-missed}
-use Rattle.listed.proofs.Values.{method-inside, method-parameters, no-method-parameters}
+use Rattle.places.proofs.Laws.{method-found, method-missed}
+use Rattle.places.proofs.Values.{method-inside, method-parameters, no-method-parameters}
 use borrow.Author.Needs.{needs}
 use Rattle.method_answers.proofs.count_params_of.Statement.{statement}
 use Rattle.method_answers.proofs.count_params_of.Tie as tie
 use Rattle.method_answers.proofs.count_params_of.Reads as reads
 use Rattle.method_answers.proofs.count_params_of.Lts as lts
-use Rattle.listed.proofs.method_row.Reads as method-row-reads
+use Rattle.places.proofs.method_row.Reads as method-row-reads
 use Rattle.method_signatures.proofs.count_params.Reads as count-params-reads
 use Rattle.rows.specs.Columns as columns
 

@@ -2,13 +2,13 @@ use mathlib.Core.Path.{refl}
 use mathlib.Core.List.{[]}
 use native.Mathlib.Omega.{arith}
 use borrow.Author.Needs.{needs}
-use Rattle.listed.proofs.Laws.{method-found, method-missed}
-use Rattle.listed.proofs.Values.{method-inside, method-flags, no-method-flags}
+use Rattle.places.proofs.Laws.{method-found, method-missed}
+use Rattle.places.proofs.Values.{method-inside, method-flags, no-method-flags}
 use Rattle.method_answers.proofs.method_flags_of.Statement.{statement}
 use Rattle.method_answers.proofs.method_flags_of.Tie as tie
 use Rattle.method_answers.proofs.method_flags_of.Reads as reads
 use Rattle.method_answers.proofs.method_flags_of.Lts as lts
-use Rattle.listed.proofs.method_row.Reads as method-row-reads
+use Rattle.places.proofs.method_row.Reads as method-row-reads
 use Rattle.rows.proofs.read_column.Reads as read-column-reads
 use Rattle.rows.specs.Columns as columns
 

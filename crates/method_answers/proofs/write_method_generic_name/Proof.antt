@@ -1,15 +1,15 @@
 use mathlib.Core.List.{[]}
 use native.Mathlib.Omega.{arith}
 use borrow.Author.Needs.{needs}
-use Rattle.listed.proofs.Laws.{methods-narrow, method-found, method-missed}
-use Rattle.listed.proofs.Values.{method-generic, no-method-generic}
+use Rattle.places.proofs.Laws.{methods-narrow, method-found, method-missed}
+use Rattle.places.proofs.Values.{method-generic, no-method-generic}
 use Rattle.method_answers.proofs.write_method_generic_name.Statement.{statement}
 use Rattle.method_answers.proofs.write_method_generic_name.Tie as tie
 use Rattle.method_answers.proofs.write_method_generic_name.Reads as reads
 use Rattle.method_answers.proofs.write_method_generic_name.Lts as lts
 use Rattle.buffers.proofs.refuse.Reads as refuse-reads
-use Rattle.listed.proofs.method_row.Reads as method-row-reads
-use Rattle.listed.proofs.write_generic.Reads as write-generic-reads
+use Rattle.places.proofs.method_row.Reads as method-row-reads
+use Rattle.places.proofs.write_generic.Reads as write-generic-reads
 
 -- src/lib.rt:87:11
 method-row-requires : tie.Need-method-row-requires

@@ -2,14 +2,14 @@ use mathlib.Core.Path.{refl}
 use mathlib.Core.List.{[]}
 use native.Mathlib.Omega.{arith}
 use borrow.Author.Needs.{needs}
-use Rattle.listed.proofs.Laws.{method-found, method-missed}
-use Rattle.listed.proofs.Values.{method-inside, method-name, no-method-name}
+use Rattle.places.proofs.Laws.{method-found, method-missed}
+use Rattle.places.proofs.Values.{method-inside, method-name, no-method-name}
 use Rattle.method_answers.proofs.write_method_name.Statement.{statement}
 use Rattle.method_answers.proofs.write_method_name.Tie as tie
 use Rattle.method_answers.proofs.write_method_name.Reads as reads
 use Rattle.method_answers.proofs.write_method_name.Lts as lts
 use Rattle.buffers.proofs.refuse.Reads as refuse-reads
-use Rattle.listed.proofs.method_row.Reads as method-row-reads
+use Rattle.places.proofs.method_row.Reads as method-row-reads
 use Rattle.rows.proofs.write_string.Reads as write-string-reads
 use Rattle.rows.specs.Columns as columns
 

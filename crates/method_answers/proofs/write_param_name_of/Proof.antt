@@ -1,15 +1,15 @@
 use mathlib.Core.List.{[]}
 use mathlib.Core.Path.{refl}
 use native.Mathlib.Omega.{arith}
-use Rattle.listed.proofs.Laws.{method-found, method-missed}
-use Rattle.listed.proofs.Values.{method-inside, method-parameter-name, no-method-parameter-name}
+use Rattle.places.proofs.Laws.{method-found, method-missed}
+use Rattle.places.proofs.Values.{method-inside, method-parameter-name, no-method-parameter-name}
 use borrow.Author.Needs.{needs}
 use Rattle.method_answers.proofs.write_param_name_of.Statement.{statement}
 use Rattle.method_answers.proofs.write_param_name_of.Tie as tie
 use Rattle.method_answers.proofs.write_param_name_of.Reads as reads
 use Rattle.method_answers.proofs.write_param_name_of.Lts as lts
 use Rattle.buffers.proofs.refuse.Reads as refuse-reads
-use Rattle.listed.proofs.method_row.Reads as method-row-reads
+use Rattle.places.proofs.method_row.Reads as method-row-reads
 use Rattle.method_signatures.proofs.write_param_name.Reads as write-param-name-reads
 use Rattle.rows.specs.Columns as columns
 

@@ -1,15 +1,15 @@
 use mathlib.Core.List.{[]}
 use mathlib.Core.Path.{refl}
 use native.Mathlib.Omega.{arith}
-use Rattle.listed.proofs.Laws.{method-found, method-missed}
-use Rattle.listed.proofs.Values.{method-inside, method-parameter-type, no-method-parameter-type}
+use Rattle.places.proofs.Laws.{method-found, method-missed}
+use Rattle.places.proofs.Values.{method-inside, method-parameter-type, no-method-parameter-type}
 use borrow.Author.Needs.{needs}
 use Rattle.method_answers.proofs.write_param_type_of.Statement.{statement}
 use Rattle.method_answers.proofs.write_param_type_of.Tie as tie
 use Rattle.method_answers.proofs.write_param_type_of.Reads as reads
 use Rattle.method_answers.proofs.write_param_type_of.Lts as lts
 use Rattle.buffers.proofs.refuse.Reads as refuse-reads
-use Rattle.listed.proofs.method_row.Reads as method-row-reads
+use Rattle.places.proofs.method_row.Reads as method-row-reads
 use Rattle.method_signatures.proofs.write_param_type.Reads as write-param-type-reads
 use Rattle.rows.specs.Columns as columns
 

@@ -5,13 +5,13 @@ use Rattle.opening.proofs.open.Statement.{statement}
 use Rattle.opening.proofs.open.Tie as tie
 use Rattle.opening.proofs.open.Reads as reads
 use Rattle.opening.proofs.open.Lts as lts
-use Rattle.header.proofs.open_stream.Reads as open-stream-reads
+use Rattle.header.proofs.read_header.Reads as read-header-reads
 use Rattle.opening.proofs.lay.Reads as lay-reads
 use Rattle.opening.proofs.refuse.Reads as refuse-reads
 
 -- src/lib.rt:115:9
-open-stream-requires : tie.Need-open-stream-requires
-open-stream-requires c κs = search needs
+read-header-requires : tie.Need-read-header-requires
+read-header-requires c κs = search needs
 
 -- src/lib.rt:121:25
 enum-known-answer : tie.Need-enum-known-answer
@@ -27,21 +27,21 @@ enum-told c = search needs
 
 -- src/lib.rt:123:17
 lay-requires : tie.Need-lay-requires
-lay-requires c κs = (rw (c .before .before .before .before .open-stream .ensures) (first-within _ _), search needs)
+lay-requires c κs = (rw (c .before .before .before .before .read-header .ensures) (first-within _ _), search needs)
 
 -- src/lib.rt:112:1
 returns : tie.Need-returns
-returns c = is-refused (c .before .before .before .before .open-stream .ensures) (c .before .before .answer .given .1) (c .refuse .ensures)
+returns c = is-refused (c .before .before .before .before .read-header .ensures) (c .before .before .answer .given .1) (c .refuse .ensures)
 
 -- src/lib.rt:112:1
 returns-2 : tie.Need-returns-2
-returns-2 c = is-ready (c .before .before .before .before .before .open-stream .ensures) (c .before .before .before .enum-told .given .1) (c .lay .ensures .0) (c .lay .ensures .1)
+returns-2 c = is-ready (c .before .before .before .before .before .read-header .ensures) (c .before .before .before .enum-told .given .1) (c .lay .ensures .0) (c .lay .ensures .1)
 
 pub open-spec : {M : Type 1} → statement M
 open-spec =
     tie.close
     (tie.spec
-    open-stream-requires
+    read-header-requires
     enum-known-answer
     refuse-requires
     enum-told

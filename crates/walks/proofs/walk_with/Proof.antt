@@ -7,14 +7,14 @@ use Rattle.walks.proofs.walk_with.Statement.{statement}
 use Rattle.walks.proofs.walk_with.Tie as tie
 use Rattle.walks.proofs.walk_with.Reads as reads
 use Rattle.walks.proofs.walk_with.Lts as lts
-use Rattle.header.proofs.open_stream.Reads as open-stream-reads
+use Rattle.header.proofs.read_header.Reads as read-header-reads
 use Rattle.layouts.proofs.index_sizes.Reads as index-sizes-reads
 use Rattle.tables.proofs.refused_extents.Reads as refused-extents-reads
 use Rattle.tables.proofs.walk_tables.Reads as walk-tables-reads
 
 -- src/lib.rt:14:9
-open-stream-requires : tie.Need-open-stream-requires
-open-stream-requires c κs = search needs
+read-header-requires : tie.Need-read-header-requires
+read-header-requires c κs = search needs
 
 -- src/lib.rt:21:25
 enum-known-answer : tie.Need-enum-known-answer
@@ -36,7 +36,7 @@ index-sizes-requires c κs = search needs
 walk-tables-requires : tie.Need-walk-tables-requires
 walk-tables-requires c κs =
     let sizes = c .before in (
-      rw (sizes .before .before .before .before .before .open-stream .ensures) (first-within _ _),
+      rw (sizes .before .before .before .before .before .read-header .ensures) (first-within _ _),
       λ k h. rw (sizes .index-sizes .ensures) (size-pos _ _ _ k h),
     )
 
@@ -44,7 +44,7 @@ walk-tables-requires c κs =
 returns : tie.Need-returns
 returns c =
     let a = c .before .before in
-    c .refused-extents .ensures ∙ is-refused _ _ _ _ (a .before .before .before .open-stream .ensures) (a .answer .given .1)
+    c .refused-extents .ensures ∙ is-refused _ _ _ _ (a .before .before .before .read-header .ensures) (a .answer .given .1)
 
 -- src/lib.rt:11:1
 returns-2 : tie.Need-returns-2
@@ -52,13 +52,13 @@ returns-2 c =
     let sizes = c .before .before in
     let told = sizes .before .before in
     c .walk-tables .ensures ∙ same-walk (sizes .index-sizes .ensures) _ _ _
-    ∙ is-walked _ _ _ (told .before .before .before .open-stream .ensures) (told .enum-told .given .1)
+    ∙ is-walked _ _ _ (told .before .before .before .read-header .ensures) (told .enum-told .given .1)
 
 pub walk-with-spec : {M : Type 1} → statement M
 walk-with-spec =
     tie.close
     (tie.spec
-    open-stream-requires
+    read-header-requires
     enum-known-answer
     refused-extents-requires
     enum-told

@@ -2,11 +2,11 @@ use mathlib.Core.List.{[]}
 use native.Mathlib.Omega.{arith}
 use borrow.Author.Needs.{needs}
 use Rattle.keys.proofs.Laws.{generics-found}
-use Rattle.listed.proofs.Values.{named-generic, named-no-generic}
-use Rattle.listed.proofs.write_generic.Statement.{statement}
-use Rattle.listed.proofs.write_generic.Tie as tie
-use Rattle.listed.proofs.write_generic.Reads as reads
-use Rattle.listed.proofs.write_generic.Lts as lts
+use Rattle.places.proofs.Values.{named-generic, named-no-generic}
+use Rattle.places.proofs.write_generic.Statement.{statement}
+use Rattle.places.proofs.write_generic.Tie as tie
+use Rattle.places.proofs.write_generic.Reads as reads
+use Rattle.places.proofs.write_generic.Lts as lts
 use Rattle.buffers.proofs.refuse.Reads as refuse-reads
 use Rattle.keys.proofs.find_key.Reads as find-key-reads
 use Rattle.numbers.proofs.wide.Reads as wide-reads

@@ -1,10 +1,10 @@
 use mathlib.Core.Path.{sym, _∙_}
 use borrow.Author.Needs.{needs}
 use Rattle.keys.proofs.Laws.{generics-count}
-use Rattle.listed.proofs.count_generics.Statement.{statement}
-use Rattle.listed.proofs.count_generics.Tie as tie
-use Rattle.listed.proofs.count_generics.Reads as reads
-use Rattle.listed.proofs.count_generics.Lts as lts
+use Rattle.places.proofs.count_generics.Statement.{statement}
+use Rattle.places.proofs.count_generics.Tie as tie
+use Rattle.places.proofs.count_generics.Reads as reads
+use Rattle.places.proofs.count_generics.Lts as lts
 use Rattle.keys.proofs.count_key.Reads as count-key-reads
 
 -- src/lib.rt:82:5

@@ -25,11 +25,11 @@ use Rattle.rows.specs.Layout.{Laid, rowsAt, viewIn}
 use Rattle.rows.proofs.Laws.{rows-at, rows-narrow}
 use Rattle.rows.proofs.Classes.{classes-are}
 use Rattle.methods.specs.Ranges.{RangeOf}
-use Rattle.listed.specs.Listed.{ClassRowIs, at-row, no-row, MethodRowIs, at-method, no-method}
-use Rattle.listed.specs.declared.ClassRow.{ClassRow}
-use Rattle.listed.specs.declared.ClassRow.the-variants.{Row, NoRow}
-use Rattle.listed.specs.declared.MethodRow.{MethodRow}
-use Rattle.listed.specs.declared.MethodRow.the-variants.{Row as MethodAt, NoRow as NoMethod}
+use Rattle.places.specs.Places.{ClassRowIs, at-row, no-row, MethodRowIs, at-method, no-method}
+use Rattle.places.specs.declared.ClassRow.{ClassRow}
+use Rattle.places.specs.declared.ClassRow.the-variants.{Row, NoRow}
+use Rattle.places.specs.declared.MethodRow.{MethodRow}
+use Rattle.places.specs.declared.MethodRow.the-variants.{Row as MethodAt, NoRow as NoMethod}
 
 -- The row of a class, by whether a row has such a number.
 module _ (c : ClassNumber) {r : TypeDefRow} (e : r ≡ rowOf c) where

@@ -3,10 +3,10 @@ use native.Mathlib.Omega.{arith}
 use Rattle.numbers.proofs.Bits.{ones-most}
 use Rattle.header.proofs.Cases.{end-is, is-short, is-cut, is-over, is-opened}
 use borrow.Author.Needs.{needs}
-use Rattle.header.proofs.open_stream.Statement.{statement}
-use Rattle.header.proofs.open_stream.Tie as tie
-use Rattle.header.proofs.open_stream.Reads as reads
-use Rattle.header.proofs.open_stream.Lts as lts
+use Rattle.header.proofs.read_header.Statement.{statement}
+use Rattle.header.proofs.read_header.Tie as tie
+use Rattle.header.proofs.read_header.Reads as reads
+use Rattle.header.proofs.read_header.Lts as lts
 use Rattle.header.proofs.count_ones.Reads as count-ones-reads
 use Rattle.header.proofs.read_counts.Reads as read-counts-reads
 use Rattle.header.proofs.refuse.Reads as refuse-reads
@@ -86,8 +86,8 @@ returns-4 c =
     is-opened _ _ (o .before .before .if1 .left) (omega (arith, r .before .if2 .left, e)) (sym (r .read-counts .ensures .tells) ∙ few) _ _ _
     e (c .tables-start .ensures) (r .read-counts .ensures .all few)
 
-pub open-stream-spec : {M : Type 1} → statement M
-open-stream-spec =
+pub read-header-spec : {M : Type 1} → statement M
+read-header-spec =
     tie.close
     (tie.spec
     refuse-requires

@@ -12,10 +12,10 @@ use Rattle.record.specs.Record.{method}
 use Rattle.record.specs.Answers.{theMethod}
 use Rattle.rows.specs.Columns as columns
 use Rattle.rows.specs.Layout.{rowsAt}
-use Rattle.listed.specs.declared.ClassRow.{ClassRow}
-use Rattle.listed.specs.declared.ClassRow.the-variants.{Row, NoRow}
-use Rattle.listed.specs.declared.MethodRow.{MethodRow}
-use Rattle.listed.specs.declared.MethodRow.the-variants.{Row as MethodAt, NoRow as NoMethod}
+use Rattle.places.specs.declared.ClassRow.{ClassRow}
+use Rattle.places.specs.declared.ClassRow.the-variants.{Row, NoRow}
+use Rattle.places.specs.declared.MethodRow.{MethodRow}
+use Rattle.places.specs.declared.MethodRow.the-variants.{Row as MethodAt, NoRow as NoMethod}
 
 -- Class c is at TypeDef row c + 2, where the table, by the layout l, has that row.
 pub data ClassRowIs (l : List ℕ) (c : ℕ) : ClassRow → Type 0 where

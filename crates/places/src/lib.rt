@@ -16,7 +16,7 @@ ghost use Rattle.buffers.specs.Replies.{nameOr5, Named};
 ghost use Rattle.record.specs.Answers.{_⟫_, orNoRow};
 ghost use Rattle.rows.specs.Columns as columns;
 ghost use Rattle.rows.specs.Layout.{Laid, rowsAt, viewIn};
-ghost use Rattle.listed.specs.Listed.{ClassRowIs, MethodRowIs};
+ghost use Rattle.places.specs.Places.{ClassRowIs, MethodRowIs};
 
 // The TypeDef row of a class.
 pub enum ClassRow {

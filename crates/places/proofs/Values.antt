@@ -33,7 +33,7 @@ use Rattle.keys.specs.Keyed.{FoundIs}
 use Rattle.keys.specs.declared.Row.{Row}
 use Rattle.keys.specs.declared.Row.the-variants.{At, NoRow}
 use Rattle.keys.proofs.Laws.{generics-found, generics-missed}
-use Rattle.listed.proofs.Laws.{listed, unlisted, range-of, methods-counted}
+use Rattle.places.proofs.Laws.{listed, unlisted, range-of, methods-counted}
 
 -- What is asked of a class or a method by way of its place: the value, or the refusal that stands.
 through : {A B : Type 0} {a : Answer A} (f : A → Answer B) {x : A} → a ≡ value x → (a ⟫ f) ≡ f x

@@ -1,11 +1,11 @@
 use native.Mathlib.Omega.{arith}
 use borrow.Author.Needs.{needs}
-use Rattle.listed.specs.Listed.{at-row, no-row}
-use Rattle.listed.proofs.Laws.{row-low, row-is}
-use Rattle.listed.proofs.class_row.Statement.{statement}
-use Rattle.listed.proofs.class_row.Tie as tie
-use Rattle.listed.proofs.class_row.Reads as reads
-use Rattle.listed.proofs.class_row.Lts as lts
+use Rattle.places.specs.Places.{at-row, no-row}
+use Rattle.places.proofs.Laws.{row-low, row-is}
+use Rattle.places.proofs.class_row.Statement.{statement}
+use Rattle.places.proofs.class_row.Tie as tie
+use Rattle.places.proofs.class_row.Reads as reads
+use Rattle.places.proofs.class_row.Lts as lts
 use Rattle.classes.proofs.row_of.Reads as row-of-reads
 use Rattle.numbers.proofs.wide.Reads as wide-reads
 use Rattle.rows.proofs.count_rows.Reads as count-rows-reads

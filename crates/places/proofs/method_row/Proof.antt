@@ -5,12 +5,12 @@ use borrow.Author.Needs.{needs}
 use Rattle.rows.specs.Columns as columns
 use Rattle.rows.specs.Layout.{viewIn}
 use Rattle.rows.proofs.Laws.{rows-narrow, same-rows}
-use Rattle.listed.proofs.Laws.{class-found, class-missed, listed, unlisted, range-of, methods-narrow, method-there, method-past, method-none}
-use Rattle.listed.proofs.method_row.Statement.{statement}
-use Rattle.listed.proofs.method_row.Tie as tie
-use Rattle.listed.proofs.method_row.Reads as reads
-use Rattle.listed.proofs.method_row.Lts as lts
-use Rattle.listed.proofs.class_row.Reads as class-row-reads
+use Rattle.places.proofs.Laws.{class-found, class-missed, listed, unlisted, range-of, methods-narrow, method-there, method-past, method-none}
+use Rattle.places.proofs.method_row.Statement.{statement}
+use Rattle.places.proofs.method_row.Tie as tie
+use Rattle.places.proofs.method_row.Reads as reads
+use Rattle.places.proofs.method_row.Lts as lts
+use Rattle.places.proofs.class_row.Reads as class-row-reads
 use Rattle.numbers.proofs.wide.Reads as wide-reads
 use Rattle.methods.proofs.method_range.Reads as method-range-reads
 
