@@ -13,7 +13,7 @@ use Rattle.numbers.specs.Parts.{part, cutStart, cutLength}
 use Rattle.numbers.proofs.Pick.{pick-eq, pick-le, by-lt}
 use Rattle.numbers.proofs.Parts.{cut-start, cut-length, none-length}
 use Rattle.buffers.specs.Texts.{Text, q}
-use Rattle.bundle.specs.Input.{digitOf, moreDigits, numberLine, keyLine, numberAt, lineAt, laid, onLine, bundleOf, Within}
+use Rattle.bundle.specs.Input.{digitOf, moreDigits, numberLine, keyLine, numberAt, lineAt, laid, onLine, bundleOf, Within, bundleSays, inputIn}
 use Rattle.bundle.specs.declared.Part.{Part}
 use Rattle.bundle.specs.declared.Line.{Line}
 use Rattle.bundle.specs.declared.Line.the-variants.{Value, NoLine}
@@ -210,3 +210,7 @@ bundle-inside s =
 pub streams-within : (s : List ℕ) {t n b : Part} → Streams t n b ≡ bundleOf s
     → (t .at + t .len ≤ length s) × (n .at + n .len ≤ length s) × (b .at + b .len ≤ length s)
 streams-within s e = subst⁻¹ (Inside (length s)) e (bundle-inside s)
+
+-- An answer that is the definition's says what the input says.
+pub says-and-is : (s : List ℕ) {r : Bundle} → r ≡ bundleOf s → (bundleSays s r ≡ inputIn s) × (r ≡ bundleOf s)
+says-and-is s e = (ap (bundleSays s) e, e)

@@ -94,6 +94,10 @@ bundleSays s (Streams t n b) = value (record {
 })
 bundleSays s Malformed = refused (number BadInput)
 
+-- What an input says: the streams that are found in it, or 8.
+abbrev pub inputIn : List ℕ → Answer Inputs
+inputIn s = bundleSays s (bundleOf s)
+
 -- The other way round: the input that three streams make.
 unfoldable pub lineText : Text → ℕ → Text
 lineText key n = key ++ (decimal n ++ (10 ∷ []))
@@ -108,5 +112,5 @@ inputOf i =
 -- The two ways agree. Any three streams that make an input of at most 65,536 bytes are found in it, and an input in which streams are
 -- found is the one that they make, and no longer than that.
 pub record Opens : Type 0 where
-  pub found : (i : Inputs) → length (inputOf i) ≤ 65536 → bundleSays (inputOf i) (bundleOf (inputOf i)) ≡ value i
-  pub made : (s : List ℕ) (i : Inputs) → bundleSays s (bundleOf s) ≡ value i → (s ≡ inputOf i) × (length s ≤ 65536)
+  pub found : (i : Inputs) → length (inputOf i) ≤ 65536 → inputIn (inputOf i) ≡ value i
+  pub made : (s : List ℕ) (i : Inputs) → inputIn s ≡ value i → (s ≡ inputOf i) × (length s ≤ 65536)

@@ -3,7 +3,7 @@
 ghost use mathlib.Core.Path.{_≡_};
 ghost use Prim.Native.Nat.{_≤_};
 ghost use lib.ListN.{length};
-ghost use Rattle.bundle.specs.Input.{digitOf, numberAt, lineAt, laid, bundleOf, Within};
+ghost use Rattle.bundle.specs.Input.{digitOf, numberAt, lineAt, laid, bundleOf, Within, bundleSays, inputIn};
 
 // Where a stream lies in the input.
 pub struct Part {
@@ -101,9 +101,9 @@ fn lay(total: usize, tables: usize, strings: usize, blob: usize, at: usize) -> B
     Bundle::Malformed
 }
 
-// The whole input.
+// The whole input: what it says, and the places in it by which that is said.
 pub fn open_bundle(s: &[u8]) -> Bundle
-    ensures { λ r. ⌜ r ≡ bundleOf (now (s .entry)) ⌝ }
+    ensures { λ r. ⌜ (bundleSays (now (s .entry)) r ≡ inputIn (now (s .entry))) × (r ≡ bundleOf (now (s .entry))) ⌝ }
 {
     if 65536 < s.len() {
         return Bundle::Malformed;

@@ -1,5 +1,5 @@
 use mathlib.Core.Path.{_∙_}
-use Rattle.bundle.proofs.Input.{told, lines-fit, too-long, no-tables, no-strings, no-blob, all-lines}
+use Rattle.bundle.proofs.Input.{told, lines-fit, too-long, no-tables, no-strings, no-blob, all-lines, says-and-is}
 use borrow.Author.Needs.{needs}
 use Rattle.bundle.proofs.open_bundle.Statement.{statement}
 use Rattle.bundle.proofs.open_bundle.Tie as tie
@@ -12,7 +12,7 @@ use Rattle.bundle.proofs.read_line.Reads as read-line-reads
 
 -- src/lib.rt:109:9
 returns : tie.Need-returns
-returns c = too-long _ (c .if1 .taken)
+returns c = says-and-is _ (too-long _ (c .if1 .taken))
 
 -- src/lib.rt:111:49
 slice-aggregate-read-line : tie.Need-slice-aggregate-read-line
@@ -32,7 +32,7 @@ enum-told c = search needs
 
 -- src/lib.rt:112:9
 returns-2 : tie.Need-returns-2
-returns-2 c = no-tables _ (c .before .before .before .before .if1 .left) (told (c .before .before .read-line .ensures) (c .enum-told .given .1))
+returns-2 c = says-and-is _ (no-tables _ (c .before .before .before .before .if1 .left) (told (c .before .before .read-line .ensures) (c .enum-told .given .1)))
 
 -- src/lib.rt:114:49
 slice-aggregate-read-line-2 : tie.Need-slice-aggregate-read-line-2
@@ -56,7 +56,7 @@ returns-3 c =
     let l2 = c .before .before in
     let l1 = l2 .before .before .before .before .before in
     let tables = told (l1 .read-line .ensures) (l2 .before .before .before .tables .given .1) in
-    no-strings _ (l1 .before .before .if1 .left) tables (told (l2 .read-line2 .ensures) (c .enum-told2 .given .1))
+    says-and-is _ (no-strings _ (l1 .before .before .if1 .left) tables (told (l2 .read-line2 .ensures) (c .enum-told2 .given .1)))
 
 -- src/lib.rt:117:46
 slice-aggregate-read-line-3 : tie.Need-slice-aggregate-read-line-3
@@ -82,7 +82,7 @@ returns-4 c =
     let l1 = l2 .before .before .before .before .before in
     let tables = told (l1 .read-line .ensures) (l2 .before .before .before .tables .given .1) in
     let strings = told (l2 .read-line2 .ensures) (l3 .before .before .before .strings .given .1) in
-    no-blob _ (l1 .before .before .if1 .left) tables strings (told (l3 .read-line3 .ensures) (c .enum-told3 .given .1))
+    says-and-is _ (no-blob _ (l1 .before .before .if1 .left) tables strings (told (l3 .read-line3 .ensures) (c .enum-told3 .given .1)))
 
 -- src/lib.rt:120:5
 lay-requires : tie.Need-lay-requires
@@ -108,7 +108,7 @@ returns-5 c =
     let tables = told (l1 .read-line .ensures) (l2 .before .before .before .tables .given .1) in
     let strings = told (l2 .read-line2 .ensures) (l3 .before .before .before .strings .given .1) in
     let blob = told (l3 .read-line3 .ensures) (c .before .before .blob .given .1) in
-    c .lay .ensures ∙ all-lines _ (l1 .before .before .if1 .left) tables strings blob
+    says-and-is _ (c .lay .ensures ∙ all-lines _ (l1 .before .before .if1 .left) tables strings blob)
 
 pub open-bundle-spec : {M : Type 1} → statement M
 open-bundle-spec =

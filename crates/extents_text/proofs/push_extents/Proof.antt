@@ -48,7 +48,7 @@ same-length c = search needs
 -- src/lib.rt:77:1
 returns : tie.Need-returns
 returns c =
-    let is = sym (c .before .before .before .before .before .before .before .p .given .1) ∙ c .before .before .before .before .before .before .before .before .before .open-bundle .ensures in
+    let is = sym (c .before .before .before .before .before .before .before .p .given .1) ∙ c .before .before .before .before .before .before .before .before .before .open-bundle .ensures .1 in
     let bytes = cut-is _ _ _ _ (streams-within _ is .0) (c .before .before .before .before .cut .ensures) .bytes in
     text-streams _ is bytes (c .before .before .before .walk .ensures) (c .before .before .push-walk .ensures)
 
@@ -58,7 +58,7 @@ same-length-2 c = search needs
 
 -- src/lib.rt:77:1
 returns-2 : tie.Need-returns-2
-returns-2 c = text-malformed _ (sym (c .before .before .before .before .enum-told .given .1) ∙ c .before .before .before .before .before .before .open-bundle .ensures) (c .before .before .push-refused .ensures)
+returns-2 c = text-malformed _ (sym (c .before .before .before .before .enum-told .given .1) ∙ c .before .before .before .before .before .before .open-bundle .ensures .1) (c .before .before .push-refused .ensures)
 
 pub push-extents-spec : {M : Type 1} → statement M
 push-extents-spec =

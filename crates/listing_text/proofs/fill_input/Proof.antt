@@ -60,7 +60,7 @@ same-length c = search needs
 -- src/lib.rt:175:1
 returns : tie.Need-returns
 returns c =
-    let is = sym (c .before .before .before .before .before .before .before .before .before .t .given .1) ∙ c .before .before .before .before .before .before .before .before .before .before .before .open-bundle .ensures in
+    let is = sym (c .before .before .before .before .before .before .before .before .before .t .given .1) ∙ c .before .before .before .before .before .before .before .before .before .before .before .open-bundle .ensures .1 in
     let in-input = streams-within _ is in
     input-streams _ _ _ is
     (cut-is _ _ _ _ (in-input .0) (c .before .before .before .before .before .before .before .cut .ensures) .bytes)
@@ -77,7 +77,7 @@ same-length-2 c = search needs
 returns-2 : tie.Need-returns-2
 returns-2 c =
     let told = c .before .before .before .before .before .before .before .before in
-    let is = sym (told .enum-told .given .1) ∙ told .before .before .open-bundle .ensures in
+    let is = sym (told .enum-told .given .1) ∙ told .before .before .open-bundle .ensures .1 in
     c .before .before .end-piece .ensures _ _ (input-malformed _ _ _ is (c .before .before .before .before .before .before .push-refused .ensures))
 
 pub fill-input-spec : {M : Type 1} → statement M
