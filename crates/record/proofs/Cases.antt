@@ -19,14 +19,14 @@ use Rattle.record.specs.Names.{classes, classFullName, refFullName, spec
 use Rattle.record.specs.Methods.{takes, leftOver, leftAfter, tries, signature, readBy, handle, pass, signatureOf, parameterName}
 use Rattle.record.specs.Record.{method, class, classRecord}
 use Rattle.buffers.specs.Replies.{nameReply, nameBuffer}
-use Rattle.record.specs.Cases.{same, sameℤ, is, nowhere, unsigned, signed, rendered, all, cases, TwelveCases, moreCases, MoreCases, Limits, Buffers, wholeTables, wholeStrings, WholeCase, threeTables, threeStrings, threeBlob, ThreeClasses, richTables, richStrings, richBlob, RichCase, cutStrings, cutTypes, interfacesEnding, CutTables, nesting, nestingStrings, NestedNames}
+use Rattle.record.specs.Cases.{same, sameℤ, is, sameAnswer, nowhere, unsigned, signed, rendered, all, cases, TwelveCases, moreCases, MoreCases, Limits, Buffers, wholeTables, wholeStrings, WholeCase, threeTables, threeStrings, threeBlob, ThreeClasses, richTables, richStrings, richBlob, RichCase, cutStrings, cutTypes, interfacesEnding, CutTables, nesting, nestingStrings, NestedNames}
 
 pub twelve : TwelveCases
-unfolding cases all rendered signed unsigned nowhere is sameℤ same packed bits7 bits14 bits29 uint unrotated sint times sep digits decimal signedText dim dims look names simple typeFullName counted methodStart arguments shown parameters around classType generic shape array instance fnPtr modified form within type
+unfolding cases all rendered signed unsigned nowhere is sameℤ sameAnswer same packed bits7 bits14 bits29 uint unrotated sint times sep digits decimal signedText dim dims look names simple typeFullName counted methodStart arguments shown parameters around classType generic shape array instance fnPtr modified form within type
 twelve = refl
 
 pub more : MoreCases
-unfolding moreCases all rendered signed unsigned nowhere is sameℤ same packed bits7 bits14 bits29 uint unrotated sint times sep digits decimal signedText dim dims look names simple typeFullName counted methodStart arguments shown parameters around classType generic shape array instance fnPtr modified form within type
+unfolding moreCases all rendered signed unsigned nowhere is sameℤ sameAnswer same packed bits7 bits14 bits29 uint unrotated sint times sep digits decimal signedText dim dims look names simple typeFullName counted methodStart arguments shown parameters around classType generic shape array instance fnPtr modified form within type
 more = refl
 
 pub limits : Limits

@@ -18,7 +18,7 @@ use Rattle.record.specs.View.{View, view}
 use Rattle.header.specs.Stream.{base, opened}
 use Rattle.record.specs.Names.{levels}
 use Rattle.record.specs.Record.{Method, classRecord}
-use Rattle.buffers.specs.Replies.{refused, value, nameReply, nameBuffer}
+use Rattle.buffers.specs.Replies.{Answer, refused, value, nameOr5, nameReply, nameBuffer}
 use Rattle.record.specs.Answers.{walkAnswer}
 
 -- Equal texts, equal numbers with a sign, and equal values that may be missing.
@@ -40,19 +40,26 @@ is eq none (some b) = false
 is eq (some a) none = false
 is eq (some a) (some b) = eq a b
 
+-- Equal answers: one value, or one number that says no.
+unfoldable pub sameAnswer : Answer Text → Answer Text → Bool
+sameAnswer (refused m) (refused n) = eqb m n
+sameAnswer (refused m) (value t) = false
+sameAnswer (value s) (refused n) = false
+sameAnswer (value s) (value t) = same s t
+
 -- No tables, no heaps and no generic names.
 unfoldable pub nowhere : Env
 nowhere = record { typeDefs = λ i. none; typeRefs = λ i. none; typeSpecs = λ i. none; generics = λ i. none; mgenerics = λ i. none }
 
--- These bytes are this unsigned number, this signed number, this type (none: number 5).
+-- These bytes are this unsigned number, this signed number, this type, as a call answers: its text, or 5 where there is none.
 unfoldable pub unsigned : List ℕ → ℕ → Bool
 unsigned s n = is eqb (uint s 0 .got) (some n)
 
 unfoldable pub signed : List ℕ → ℤ → Bool
 signed s z = is sameℤ (sint s 0 .got) (some z)
 
-unfoldable pub rendered : List ℕ → Option Text → Bool
-rendered s t = is same (type nowhere levels s 0 .got) t
+unfoldable pub rendered : List ℕ → Answer Text → Bool
+rendered s a = sameAnswer (nameOr5 (type nowhere levels s 0 .got)) a
 
 unfoldable pub all : List Bool → Bool
 all [] = true
@@ -71,25 +78,25 @@ cases =
     signed (0x7B ∷ []) (negsuc 2) ∷
     signed (0x80 ∷ 0x01 ∷ []) (negsuc 8191) ∷
     signed (0xC0 ∷ 0x00 ∷ 0x00 ∷ 0x01 ∷ []) (negsuc 268435455) ∷
-    rendered (0x1D ∷ 0x0F ∷ 0x01 ∷ []) (some (q "Ptr<void>[]")) ∷
-    rendered (0x14 ∷ 0x08 ∷ 0x02 ∷ 0x00 ∷ 0x00 ∷ []) (some (q "int[,]")) ∷
-    rendered (0x14 ∷ 0x08 ∷ 0x01 ∷ 0x01 ∷ 0x05 ∷ 0x01 ∷ 0x06 ∷ []) (some (q "int[3...7]")) ∷
-    rendered (0x14 ∷ 0x08 ∷ 0x01 ∷ 0x00 ∷ 0x01 ∷ 0x7B ∷ []) (some (q "int[-3...]")) ∷
-    rendered (0x1B ∷ 0x00 ∷ 0x02 ∷ 0x01 ∷ 0x17 ∷ 0x08 ∷ []) (some (q "FnPtr<void(, int)>")) ∷
-    rendered (0x17 ∷ []) none ∷
+    rendered (0x1D ∷ 0x0F ∷ 0x01 ∷ []) (value (q "Ptr<void>[]")) ∷
+    rendered (0x14 ∷ 0x08 ∷ 0x02 ∷ 0x00 ∷ 0x00 ∷ []) (value (q "int[,]")) ∷
+    rendered (0x14 ∷ 0x08 ∷ 0x01 ∷ 0x01 ∷ 0x05 ∷ 0x01 ∷ 0x06 ∷ []) (value (q "int[3...7]")) ∷
+    rendered (0x14 ∷ 0x08 ∷ 0x01 ∷ 0x00 ∷ 0x01 ∷ 0x7B ∷ []) (value (q "int[-3...]")) ∷
+    rendered (0x1B ∷ 0x00 ∷ 0x02 ∷ 0x01 ∷ 0x17 ∷ 0x08 ∷ []) (value (q "FnPtr<void(, int)>")) ∷
+    rendered (0x17 ∷ []) (refused 5) ∷
     []
 
 -- The twelve cases marked P.
 abbrev pub TwelveCases : Type 0
 TwelveCases = all cases ≡ true
 
--- The other cases: a first byte of E0 is refused; sixteen 0F before 08 render and seventeen do not; forty 1D before 08 render.
+-- The other cases: a first byte of E0 is refused; sixteen 0F before 08 render and seventeen give 5; forty 1D before 08 render.
 unfoldable pub moreCases : List Bool
 moreCases =
     is eqb (uint (0xE0 ∷ 0 ∷ 0 ∷ 0 ∷ []) 0 .got) none ∷
-    rendered (replicate 16 0x0F ++ 0x08 ∷ []) (some (repeated 16 (q "Ptr<") ++ q "int" ++ replicate 16 0x3E)) ∷
-    rendered (replicate 17 0x0F ++ 0x08 ∷ []) none ∷
-    rendered (replicate 40 0x1D ++ 0x08 ∷ []) (some (q "int" ++ repeated 40 (q "[]"))) ∷
+    rendered (replicate 16 0x0F ++ 0x08 ∷ []) (value (repeated 16 (q "Ptr<") ++ q "int" ++ replicate 16 0x3E)) ∷
+    rendered (replicate 17 0x0F ++ 0x08 ∷ []) (refused 5) ∷
+    rendered (replicate 40 0x1D ++ 0x08 ∷ []) (value (q "int" ++ repeated 40 (q "[]"))) ∷
     []
 
 abbrev pub MoreCases : Type 0

@@ -53,8 +53,8 @@ abbrev pub inBlob : Reader Text → Option (List ℕ) → Res Text
 inBlob type none = noneAt 0
 inBlob type (some b) = type b 0
 
--- The name behind a TypeDefOrRef index (II.24.2.6, `get_type_fullname`): the two low bits say which table, the rest is the row.
--- A TypeSpec row has a signature (II.23.2.14), which `type` reads.
+-- The name behind a TypeDefOrRef index (`get_type_fullname`), as a signature has it (II.23.2.8) or a column (II.24.2.6): the two low bits
+-- say which table, the rest is the row. A TypeSpec row has a signature (II.23.2.14), which `type` reads.
 unfoldable pub typeFullName : Env → Reader Text → ℕ → Res Text
 typeFullName e type i = look (i % 4)
     ((0, known (e .typeDefs (i / 4)) [] 0) ∷ (1, known (e .typeRefs (i / 4)) [] 0) ∷ (2, inBlob type (e .typeSpecs (i / 4))) ∷ [])
@@ -85,7 +85,7 @@ arguments (suc n) i type = do
   ts ← arguments n (i + 1) type
   give (sep i (q ",") ++ t ++ ts)
 
--- Parameter i in the text of a function pointer: one that failed is left out, and so is the separator before it.
+-- Parameter i in the text of a function pointer (II.23.2.10): one that failed is left out, and so is the separator before it.
 unfoldable pub shown : ℕ → Option Text → Text
 shown i none = []
 shown i (some t) = sep i (q ", ") ++ t
@@ -106,7 +106,7 @@ around before behind type = do
   t ← type
   give (before ++ t ++ behind)
 
--- 0x11, 0x12: the name behind a TypeDefOrRef index.
+-- 0x11, 0x12: the name behind a TypeDefOrRef index (II.23.2.8).
 unfoldable pub classType : Env → Reader Text → Reader Text
 classType e deeper = do
   i ← uint
@@ -127,7 +127,7 @@ instance same = do
     ts ← arguments n 0 same
     give (t ++ q "<" ++ ts ++ q ">")
 
--- 0x1B: a function pointer, whose signature is a method's (II.23.2.1).
+-- 0x1B: a function pointer, whose signature is a method's (II.23.2.1): its return type (II.23.2.11), its parameters.
 unfoldable pub fnPtr : Reader Text → Reader Text
 fnPtr deeper = do
   n ← methodStart

@@ -72,7 +72,7 @@ pub fn parse_sig_type(
     )
 }
 
-// The name behind a TypeDefOrRef index (II.24.2.6), with so many levels left.
+// The name behind a TypeDefOrRef index (II.23.2.8, II.24.2.6), with so many levels left.
 pub fn get_type_fullname(
     buf: &mut [u8],
     at: usize,
