@@ -18,7 +18,7 @@ use Rattle.header.specs.Stream.{opened, countsEnd, overLimit, refusedHeader}
 use Rattle.header.specs.declared.Header.{Header}
 use Rattle.header.specs.declared.Options.{Options}
 use Rattle.header.specs.declared.Opened.the-variants.{Refused, Ready}
-use Rattle.tables.specs.Extents.{walkReply}
+use Rattle.tables.specs.Extents.{walkBy}
 use Rattle.record.specs.View.{View, view, viewOf}
 use Rattle.record.specs.Answers.{walkAnswer, NumberCall, ClassCount, ClassFlags, MethodFlags, numberAnswer, NameCall, ClassName, GenericName, BaseName, MethodName, MethodGenericName, ReturnType, ParameterType, ParameterName, nameAnswer}
 use Rattle.record.proofs.Laws.{opening-first}
@@ -75,7 +75,7 @@ module _ (o : Options) (t strings blob : List ℕ) {why : Refusal} (e : opened o
       rw (opening-first v why e .1 call, ne-eqb (number why) 5 (λ z. omega arith), ne-eqb (number why) 6 (λ z. omega arith))
 
   stop-is : walkAnswer v .stop ≡ refused (number why)
-  unfolding viewOf walkReply
+  unfolding viewOf walkBy
   stop-is = rw e
 
   -- From a cursor that is so many steps before the end no line is added.

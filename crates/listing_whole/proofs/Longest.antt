@@ -16,13 +16,13 @@ use Rattle.buffers.specs.Replies.{number, Answer, refused, value}
 use Rattle.buffers.specs.declared.Refusal.{Refusal}
 use Rattle.buffers.specs.declared.Refusal.the-variants.{ShortHeader, ShortCounts, TooManyRows, NoSuchRow, NoName, BufferTooSmall, NotFound, BadInput}
 use Rattle.header.specs.Stream.{base, opened}
-use Rattle.header.specs.declared.Options.{Options}
 use Rattle.header.specs.declared.Header.{Header}
 use Rattle.header.specs.declared.Opened.{Opened}
 use Rattle.header.specs.declared.Opened.the-variants.{Refused, Ready}
+use Rattle.layouts.specs.declared.IndexSizes.{IndexSizes}
 use Rattle.layouts.specs.Kinds.{typeDef, methodDef}
 use Rattle.layouts.specs.Columns.{Two, columnsOf, tables, widthIn}
-use Rattle.tables.specs.Extents.{passes, stopFrom, stopKind, walked, answered, walkReply, keptRows}
+use Rattle.tables.specs.Extents.{passes, stopFrom, stopKind, walked, answered, walkBy, keptRows}
 use Rattle.record.specs.Columns.{column}
 use Rattle.record.specs.View.{View, view, viewOf, place, otherRow, isSide}
 use Rattle.record.specs.Names.{classes, sizesOf, numberIn}
@@ -95,10 +95,10 @@ module _ (size : ℕ → ℕ) (counts : List ℕ) (n first : ℕ) where
   unfolding stopKind
   stop-narrow = omega (arith, stop-from 64 0)
 
-stop-fits : (a : Opened) (o : Options) (h : Header) (n : ℕ) → Fits (stopLine (answered a o h n .stop))
+stop-fits : (a : Opened) (w : IndexSizes) (h : Header) (n : ℕ) → Fits (stopLine (answered a w h n .stop))
 unfolding walked
-stop-fits (Refused why) o h n = number-fits (q "refused=") (omega arith) (number why) (refusal-narrow why)
-stop-fits Ready o h n = number-fits (q "stop=") (omega arith) _ (stop-narrow _ _ _ _)
+stop-fits (Refused why) w h n = number-fits (q "refused=") (omega arith) (number why) (refusal-narrow why)
+stop-fits Ready w h n = number-fits (q "stop=") (omega arith) _ (stop-narrow _ _ _ _)
 
 -- ---- The answer of a call, if it has a value
 
@@ -200,8 +200,8 @@ module _ (t strings heap : List ℕ) (bytes : Bytes t) where
       (λ k n. n)
 
   place-fits : (p : Place) (c m i : ℕ) → Fits (placeLine v p c m i)
-  unfolding walkReply
-  place-fits at.Stop c m i = stop-fits (v .header .answer) (v .options) (v .header) (v .size)
+  unfolding walkBy
+  place-fits at.Stop c m i = stop-fits (v .header .answer) (v .sizes) (v .header) (v .size)
   place-fits at.Classes c m i = answer-fits (q "classes=") (omega arith) (classCount v) count-narrow
   place-fits at.Class c m i = name-fits (q "class=") (omega arith) (className v c)
   place-fits at.Flags c m i = answer-fits (q "flags=") (omega arith) (classFlags v c) (flags-narrow c)

@@ -12,7 +12,7 @@ use Rattle.buffers.specs.declared.Refusal.{Refusal}
 use Rattle.buffers.specs.declared.Refusal.the-variants.{NoSuchRow}
 use Rattle.header.specs.declared.Opened.{Opened}
 use Rattle.header.specs.declared.Opened.the-variants.{Refused, Ready}
-use Rattle.tables.specs.Extents.{walkReply}
+use Rattle.tables.specs.Extents.{walkBy}
 use Rattle.record.specs.View.{View}
 use Rattle.record.specs.Record.{Parameter, Method, Class, classRecord}
 use Rattle.record.specs.Answers.{walkAnswer, theClasses, theClass, theMethod, classCount, classFlags, className, genericName, baseName, methodName, methodFlags, methodGenericName, returnType, parameterType, parameterName}
@@ -294,7 +294,7 @@ module _ (v : View) (few : FewIn v) where
   refused-steps n e = single (ap stopLine e) (ap afterStop e)
 
   stop-refused : {why : Refusal} → v .header .answer ≡ Refused why → walkAnswer v .stop ≡ refused (number why)
-  unfolding walkReply
+  unfolding walkBy
   stop-refused e = rw e
 
   abbrev Listed : Text → Type 0

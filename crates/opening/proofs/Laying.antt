@@ -17,7 +17,7 @@ use Rattle.layouts.specs.declared.IndexSizes.{IndexSizes}
 use Rattle.layouts.specs.Read.{Of, readColumns, readColumn, offsetIn, bytesIn}
 use Rattle.layouts.proofs.Reaches.{below}
 use Rattle.layouts.proofs.Lists.{made-at}
-use Rattle.tables.specs.Extents.{Walked, walkSays, walkReply, extent, onlyEntire, keptRows, sizesIn}
+use Rattle.tables.specs.Extents.{Walked, walkSays, walkReply, extentBy, onlyEntire, keptBy, sizesIn}
 use Rattle.tables.specs.declared.Extents.{Extents}
 use Rattle.rows.specs.Columns as columns
 use Rattle.rows.specs.Layout.{columnNumbers, layoutOf}
@@ -99,18 +99,18 @@ module _ (o : Options) (h : Header) (n : ℕ) where
   module _ (r : Extents) (e : walkSays r ≡ walkReply o h n) (c k : ℕ) (l : c < columns.count) (ek : k ≡ readColumn c .kind) where
     pub first-is : (w : IndexSizes) (f g : ℕ) → w ≡ sizesIn o h → f ≡ offsetIn w (readColumn c) → g ≡ f
         → getD (r .starts) k 0 + g ≡ getD (layoutOf o h n) (4 * c) 0
-    unfolding extent
+    unfolding extentBy
     first-is w f g ew ef eg =
         let z : 4 * c + 0 ≡ 4 * c = omega arith in
         rw (ap (λ (w : Walked). w .starts) e, ek, eg, ef, ew) (sym (rw z at (layout-at c 0 l (omega arith))))
 
     pub step-is : (s : ℕ) → s ≡ getD (r .sizes) k 0 → s ≡ getD (layoutOf o h n) (4 * c + 1) 0
-    unfolding extent
+    unfolding extentBy
     step-is s es = es ∙ rw (ap (λ (w : Walked). w .sizes) e, ek) (sym (layout-at c 1 l (omega arith)))
 
     pub kept-is : (v : ℕ) → v ≡ cond (onlyEntire k && not (eqb (getD (r .rows) k 0) (getD (h .counts) k 0))) 0 (getD (r .rows) k 0)
         → v ≡ getD (layoutOf o h n) (4 * c + 3) 0
-    unfolding extent keptRows
+    unfolding extentBy keptBy
     kept-is v ev = ev ∙ rw (ap (λ (w : Walked). w .rows) e, ek) (sym (layout-at c 3 l (omega arith)))
 
   pub width-is : (c : ℕ) → c < columns.count → (w : IndexSizes) (f g : ℕ) → w ≡ sizesIn o h → f ≡ bytesIn w (readColumn c) → g ≡ f

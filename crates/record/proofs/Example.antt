@@ -12,7 +12,7 @@ use Rattle.numbers.specs.Bits.{bitAt, onesBelow}
 use Rattle.header.specs.Stream.{rowCount, overLimit, opened, base}
 use Rattle.layouts.specs.Columns.{tables, reaches, indexSize, heapSize, hasCustomAttribute, indexSizes, sumOf, rowSize}
 use Rattle.numbers.specs.Lists.{tabulate}
-use Rattle.tables.specs.Extents.{startOf, isTable, passes, stopFrom, stopKind, wholeRows, ifReached, walked, Extent, sizesIn, walkReply, extent, onlyEntire, keptRows}
+use Rattle.tables.specs.Extents.{startOf, isTable, passes, stopFrom, stopKind, wholeRows, ifReached, walked, Extent, sizesIn, walkBy, extentBy, onlyEntire, keptBy}
 use Rattle.heaps.specs.Lookups.{before, stringAt, bytesAt, blobAt, string}
 use Rattle.record.specs.Columns.{column}
 use Rattle.layouts.specs.Kinds.{interfaceImpl, nestedClass, genericParam}
@@ -38,27 +38,27 @@ abbrev genericsAt : Extent
 genericsAt = record { start = 126; size = 8; rows = 3 }
 
 at-interfaces : place base (opened base old) old interfaceImpl ≡ interfacesAt
-unfolding leAt bitAt onesBelow rowCount overLimit opened tables reaches indexSizes indexSize heapSize hasCustomAttribute sumOf rowSize startOf isTable passes stopFrom stopKind wholeRows ifReached walked tabulate walkReply extent
+unfolding leAt bitAt onesBelow rowCount overLimit opened tables reaches indexSizes indexSize heapSize hasCustomAttribute sumOf rowSize startOf isTable passes stopFrom stopKind wholeRows ifReached walked tabulate walkBy extentBy
 at-interfaces = refl
 
 at-nested : place base (opened base old) old nestedClass ≡ nestedAt
-unfolding leAt bitAt onesBelow rowCount overLimit opened tables reaches indexSizes indexSize heapSize hasCustomAttribute sumOf rowSize startOf isTable passes stopFrom stopKind wholeRows ifReached walked tabulate walkReply extent
+unfolding leAt bitAt onesBelow rowCount overLimit opened tables reaches indexSizes indexSize heapSize hasCustomAttribute sumOf rowSize startOf isTable passes stopFrom stopKind wholeRows ifReached walked tabulate walkBy extentBy
 at-nested = refl
 
 at-generics : place base (opened base old) old genericParam ≡ genericsAt
-unfolding leAt bitAt onesBelow rowCount overLimit opened tables reaches indexSizes indexSize heapSize hasCustomAttribute sumOf rowSize startOf isTable passes stopFrom stopKind wholeRows ifReached walked tabulate walkReply extent
+unfolding leAt bitAt onesBelow rowCount overLimit opened tables reaches indexSizes indexSize heapSize hasCustomAttribute sumOf rowSize startOf isTable passes stopFrom stopKind wholeRows ifReached walked tabulate walkBy extentBy
 at-generics = refl
 
 whole-interfaces : Whole base (opened base old) old interfaceImpl
-unfolding leAt bitAt onesBelow rowCount overLimit opened tables reaches indexSizes indexSize heapSize hasCustomAttribute sumOf rowSize startOf isTable passes stopFrom stopKind wholeRows ifReached walked tabulate walkReply extent
+unfolding leAt bitAt onesBelow rowCount overLimit opened tables reaches indexSizes indexSize heapSize hasCustomAttribute sumOf rowSize startOf isTable passes stopFrom stopKind wholeRows ifReached walked tabulate walkBy extentBy
 whole-interfaces = refl
 
 whole-nested : Whole base (opened base old) old nestedClass
-unfolding leAt bitAt onesBelow rowCount overLimit opened tables reaches indexSizes indexSize heapSize hasCustomAttribute sumOf rowSize startOf isTable passes stopFrom stopKind wholeRows ifReached walked tabulate walkReply extent
+unfolding leAt bitAt onesBelow rowCount overLimit opened tables reaches indexSizes indexSize heapSize hasCustomAttribute sumOf rowSize startOf isTable passes stopFrom stopKind wholeRows ifReached walked tabulate walkBy extentBy
 whole-nested = refl
 
 whole-generics : Whole base (opened base old) old genericParam
-unfolding leAt bitAt onesBelow rowCount overLimit opened tables reaches indexSizes indexSize heapSize hasCustomAttribute sumOf rowSize startOf isTable passes stopFrom stopKind wholeRows ifReached walked tabulate walkReply extent
+unfolding leAt bitAt onesBelow rowCount overLimit opened tables reaches indexSizes indexSize heapSize hasCustomAttribute sumOf rowSize startOf isTable passes stopFrom stopKind wholeRows ifReached walked tabulate walkBy extentBy
 whole-generics = refl
 
 -- Rows 0 and 1 change places; the others stay.
@@ -206,5 +206,5 @@ differs : moved ≢ old
 differs e = let z : _≡_ {A = ℕ} 5 2 = ap (λ l. getD l 110 0) e in omega arith
 
 pub example : Example
-unfolding leAt bitAt onesBelow rowCount overLimit opened tables reaches indexSizes indexSize heapSize hasCustomAttribute sumOf rowSize startOf isTable passes stopFrom stopKind wholeRows ifReached walked tabulate walkReply extent before stringAt bytesAt blobAt string column onlyEntire keptRows cut fullName nameOf ownNamespace otherRow viewOf look typeFullName classes classFullName typeNameIn baseTypes takes leftOver leftAfter method class classRecord
+unfolding leAt bitAt onesBelow rowCount overLimit opened tables reaches indexSizes indexSize heapSize hasCustomAttribute sumOf rowSize startOf isTable passes stopFrom stopKind wholeRows ifReached walked tabulate walkBy extentBy before stringAt bytesAt blobAt string column onlyEntire keptBy cut fullName nameOf ownNamespace otherRow viewOf look typeFullName classes classFullName typeNameIn baseTypes takes leftOver leftAfter method class classRecord
 example = record { allowed = allowed; differs = differs; exchanged = exchanged; classes = refl }

@@ -10,7 +10,7 @@ use lib.Dec.{eqb}
 use Rattle.header.specs.declared.Options.{Options}
 use Rattle.header.specs.declared.Header.{Header}
 use Rattle.header.specs.declared.Opened.the-variants.{Ready}
-use Rattle.tables.specs.Extents.{Extent, extent, onlyEntire, keptRows}
+use Rattle.tables.specs.Extents.{Extent, extent, onlyEntire, keptBy, keptRows}
 use Rattle.tables.specs.Apart.{Inside}
 use Rattle.tables.proofs.Places.{found, one-kind}
 use Rattle.record.specs.Rows.{count}
@@ -32,7 +32,7 @@ rows-apart e i j p h r q =
 
 module _ (o : Options) (h : Header) (n : ℕ) where
   pub kept-le : (k : ℕ) → keptRows o h n k ≤ extent o h n k .rows
-  unfolding keptRows
+  unfolding keptBy
   kept-le k = go (onlyEntire k && not (eqb (extent o h n k .rows) (count h k)))
     where
       go : (b : Bool) → cond b 0 (extent o h n k .rows) ≤ extent o h n k .rows
@@ -41,7 +41,7 @@ module _ (o : Options) (h : Header) (n : ℕ) where
 
   -- A table that was read whole is kept.
   pub kept-whole : (k : ℕ) → extent o h n k .rows ≡ count h k → keptRows o h n k ≡ extent o h n k .rows
-  unfolding keptRows
+  unfolding keptBy
   kept-whole k w = rw (eq-eqb (extent o h n k .rows) (count h k) w) (go (onlyEntire k))
     where
       go : (b : Bool) → cond (b && false) 0 (extent o h n k .rows) ≡ extent o h n k .rows

@@ -1,23 +1,38 @@
 -- What callers cite of the record and of the answers. Assumes nothing.
 use mathlib.Core.Path.{_≡_, refl, ap, _∙_}
+use mathlib.Core.Bool.{cond}
 use mathlib.Core.List.{List}
+use mathlib.Core.Option.{none, some}
 use Prim.Native.Nat.{ℕ, _+_, _-_, _≤_, _<_}
 use native.Mathlib.Omega.{arith}
+use lib.Dec.{ltb}
 use lib.ListN.{length, getD}
 use Rattle.buffers.specs.declared.Refusal.the-variants.{NoSuchRow}
 use Rattle.header.specs.declared.Opened.the-variants.{Ready}
 use Rattle.numbers.proofs.Lists.{tabulate-length, table-at, tabulate-item, tabulate-past}
-use Rattle.tables.specs.Extents.{walkOf, walkReply}
+use Rattle.tables.specs.Extents.{sizesIn, walkBy, walkOf, extentBy, keptBy}
 use Rattle.header.specs.declared.Options.{Options}
-use Rattle.record.specs.View.{View, view, viewOf}
+use Rattle.header.specs.declared.Header.{Header}
+use Rattle.record.specs.Rows.{rowBytes}
+use Rattle.record.specs.View.{View, view, viewOf, isSide, otherRow, ViewBySizes}
 use Rattle.record.specs.Names.{classes}
 use Rattle.record.specs.Record.{Class, class, classRecord}
 use Rattle.buffers.specs.Replies.{refused, value, number}
 use Rattle.record.specs.Answers.{_⟫_, ready, orNoRow, item, walkAnswer, theClass, NumberCall, NameCall, ClassCount, ClassFlags, GenericCount, BaseCount, MethodCount, MethodFlags, MethodGenericCount, ParameterCount, ClassName, GenericName, BaseName, MethodName, MethodGenericName, ReturnType, ParameterType, ParameterName, classCount, classFlags, genericCount, baseCount, methodCount, methodFlags, methodGenericCount, parameterCount, className, genericName, baseName, methodName, methodGenericName, returnType, parameterType, parameterName, numberAnswer, nameAnswer, OpeningFirst}
 
+-- What the options say of an opened stream, they say by the index sizes.
+module _ (o p : Options) (h : Header) (t : List ℕ) (e : sizesIn o h ≡ sizesIn p h) where
+  rows-by : otherRow o h t ≡ otherRow p h t
+  unfolding otherRow
+  rows-by = λ i k j. cond (isSide k) none (cond (ltb j (keptBy (e i) h (length t) k)) (some (rowBytes (extentBy (e i) h (length t) k) t j)) none)
+
+pub view-by-sizes : ViewBySizes
+unfolding viewOf
+view-by-sizes o p h t strings blob e = rw (e, rows-by o p h t e)
+
 -- The walk's answer is the walk's reply for the stream.
 pub walk-is : (o : Options) (t strings blob : List ℕ) → walkAnswer (view o t strings blob) ≡ walkOf o t
-unfolding viewOf walkReply
+unfolding viewOf walkBy
 walk-is o t strings blob = refl
 
 -- Entry c of the class record is class c.

@@ -63,9 +63,9 @@ module _ (o : Options) (t u strings blob : List ℕ) (r : Rearranged o t u) wher
   unfolding viewOf
   view-same =
       λ i. record {
-        options = o;
         header = headers i;
         size = r .same-length i;
+        sizes = sizesIn o (headers i);
         row = rows i;
         generics = generics i;
         interfaces = interfaces i;

@@ -11,7 +11,7 @@ use Rattle.header.specs.declared.Header.{Header}
 use Rattle.heaps.specs.Lookups.{string}
 use Rattle.layouts.specs.Kinds.{genericParam}
 use Rattle.record.specs.Columns.{owner, genericName}
-use Rattle.tables.specs.Extents.{Extent, sizesIn, extent, keptRows, onlyEntire}
+use Rattle.tables.specs.Extents.{Extent, sizesIn, extent, keptBy, keptRows, onlyEntire}
 use Rattle.record.specs.Rows.{rowBytes, ofKey}
 use Rattle.header.specs.declared.Options.{Options}
 use Rattle.record.specs.View.{view, viewOf, place}
@@ -63,7 +63,7 @@ module _ (o : Options) (t u strings blob : List ℕ) (i j : ℕ) (s : Swapped o 
         go (no n) (no m) = absurd (ne (ap (λ k. name (rowBytes e t k)) (omega arith)))
 
     pub generics-differ : view o u strings blob .generics c ≢ view o t strings blob .generics c
-    unfolding viewOf keptRows onlyEntire
+    unfolding viewOf keptBy onlyEntire
     generics-differ q =
         lists-differ
         (sym (ap₂ (λ g n. ofKey (owner (sizesIn o g)) (λ b. string strings (genericName (sizesIn o g) b)) (rowBytes (extent o g n genericParam) u) (extent o g n genericParam .rows) c) headers (s .same-length))

@@ -12,7 +12,7 @@ use Rattle.buffers.specs.declared.Refusal.the-variants.{NoSuchRow}
 use Rattle.buffers.specs.declared.Reply.{Reply}
 use Rattle.header.specs.declared.Opened.{Opened}
 use Rattle.header.specs.declared.Opened.the-variants.{Refused, Ready}
-use Rattle.tables.specs.Extents.{Walked, walkReply}
+use Rattle.tables.specs.Extents.{Walked, walkBy}
 use Rattle.record.specs.View.{View}
 use Rattle.record.specs.Record.{Parameter, Method, Class, classRecord}
 
@@ -37,7 +37,7 @@ item l i = orNoRow (getElem? l i)
 
 -- The walk's entire reply, refusals included.
 abbrev pub walkAnswer : View → Walked
-walkAnswer v = walkReply (v .options) (v .header) (v .size)
+walkAnswer v = walkBy (v .sizes) (v .header) (v .size)
 
 -- Class c, method m of class c, parameter p of that method: as the class record has them.
 abbrev pub theClasses : View → Answer (List Class)

@@ -11,17 +11,17 @@ use Rattle.buffers.specs.Texts.{Text}
 use Rattle.heaps.specs.Lookups.{string, blob}
 use Rattle.layouts.specs.Kinds.{typeRef, typeDef, methodDef, typeSpec}
 use Rattle.record.specs.Columns.{refName, refNamespace, extends, specSignature}
-use Rattle.tables.specs.Extents.{sizesIn, keptRows}
+use Rattle.tables.specs.Extents.{keptBy}
 use Rattle.record.specs.Namespaces.{cut, fullName, nameOf}
 use Rattle.record.specs.View.{View}
 use Rattle.record.specs.Types.{Env, typeFullName, type}
 
 -- The index sizes, and how many rows of a table are kept.
 abbrev pub sizesOf : View → IndexSizes
-sizesOf v = sizesIn (v .options) (v .header)
+sizesOf v = v .sizes
 
 abbrev pub rowsIn : View → ℕ → ℕ
-rowsIn v k = keptRows (v .options) (v .header) (v .size) k
+rowsIn v k = keptBy (v .sizes) (v .header) (v .size) k
 
 -- The row that an index into a table means: indices count from 1, and 0 stands for none (`get_record_in_table`).
 abbrev pub indexed : View → ℕ → ℕ → Option (List ℕ)

@@ -1,5 +1,6 @@
 -- The view: all that the record and the answers may read of the three streams. The side tables (GenericParam, InterfaceImpl, NestedClass)
 -- stand in it only by what they say of an owner, of a class, and of the namespaces.
+use mathlib.Core.Path.{_≡_}
 use mathlib.Core.Bool.{Bool, cond, _||_}
 use mathlib.Core.List.{List}
 use mathlib.Core.Option.{Option, none, some}
@@ -11,6 +12,7 @@ use Rattle.header.specs.declared.Options.{Options}
 use Rattle.header.specs.declared.Header.{Header}
 use Rattle.buffers.specs.Texts.{Text}
 use Rattle.heaps.specs.Lookups.{string}
+use Rattle.layouts.specs.declared.IndexSizes.{IndexSizes}
 use Rattle.layouts.specs.Kinds.{interfaceImpl, nestedClass, genericParam}
 use Rattle.record.specs.Columns.{owner, genericName, implClass, implInterface}
 use Rattle.tables.specs.Extents.{Extent, sizesIn, extent, keptRows}
@@ -22,12 +24,12 @@ abbrev pub isSide : ℕ → Bool
 isSide k = eqb k interfaceImpl || (eqb k nestedClass || eqb k genericParam)
 
 pub record View : Type 0 where
-  -- how the streams are opened
-  pub options : Options
   -- what opening finds: a refusal, or heap sizes, row counts and the place of the first table
   pub header : Header
   -- the length of the tables stream
   pub size : ℕ
+  -- the index sizes: what the options mean for answers
+  pub sizes : IndexSizes
   -- the kept rows of the other tables, by kind and place from 0
   pub row : ℕ → ℕ → Option (List ℕ)
   -- the names of an owner's generic parameters, by the Owner column as stored
@@ -59,9 +61,9 @@ module _ (o : Options) (h : Header) (t : List ℕ) where
   unfoldable pub viewOf : List ℕ → List ℕ → View
   viewOf strings blob =
       record {
-        options = o;
         header = h;
         size = length t;
+        sizes = sizesIn o h;
         row = otherRow;
         generics = ofKey (owner (sizesIn o h)) (λ r. string strings (genericName (sizesIn o h) r)) (sideRow genericParam) (sideRows genericParam);
         interfaces = ofKey (implClass (sizesIn o h)) (implInterface (sizesIn o h)) (sideRow interfaceImpl) (sideRows interfaceImpl);
@@ -75,3 +77,9 @@ module _ (o : Options) (h : Header) (t : List ℕ) where
 -- The view of a tables stream, a strings heap and a blob heap.
 abbrev pub view : Options → List ℕ → List ℕ → List ℕ → View
 view o t strings blob = viewOf o (opened o t) t strings blob
+
+-- Two ways of opening that find the same, with equal index sizes, have one view, and so one walk, one record and one answer to every call.
+abbrev pub ViewBySizes : Type 0
+ViewBySizes =
+    (o p : Options) (h : Header) (t strings blob : List ℕ) → sizesIn o h ≡ sizesIn p h
+    → viewOf o h t strings blob ≡ viewOf p h t strings blob

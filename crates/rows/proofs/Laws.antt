@@ -25,7 +25,7 @@ use Rattle.header.specs.declared.Header.{Header}
 use Rattle.layouts.specs.Columns.{tables, Two, columnsOf, widthIn, rowSize}
 use Rattle.layouts.proofs.Reaches.{and-left, and-right}
 use Rattle.layouts.proofs.Facts.{two-or-four}
-use Rattle.tables.specs.Extents.{Extent, keptRows, sizesIn}
+use Rattle.tables.specs.Extents.{Extent, keptRows, counted, sizesIn}
 use Rattle.tables.proofs.Places.{stands, few-rows}
 use Rattle.header.proofs.Cases.{few-counted}
 use Rattle.record.specs.View.{place}
@@ -109,7 +109,7 @@ module _ {t l : List ℕ} (laid : Laid t l) where
       let at : e .start + i * e .size + offsetIn (sizesIn o h) (readColumn c) ≡ getD l (4 * c) 0 + i * getD l (4 * c + 1) 0 = omega arith in
       record {
         narrow = ⊎-elim (λ w. omega arith) (λ w. omega arith)
-            (two-or-four (o .security) (h .heap) (h .counts) (getD (columnsOf (readColumn c .kind)) (readColumn c .place) Two));
+            (two-or-four (counted o h) (h .heap) (h .counts) (getD (columnsOf (readColumn c .kind)) (readColumn c .place) Two));
         small = omega (arith, s .within);
         within = omega (arith, s .within, s .sized);
         is =

@@ -11,15 +11,15 @@ use Rattle.header.specs.declared.Header.{Header}
 use Rattle.header.specs.declared.Opened.the-variants.{Refused, Ready}
 use Rattle.layouts.specs.Columns.{widthIn, rowSize}
 use Rattle.layouts.specs.declared.IndexSizes.{IndexSizes}
-use Rattle.tables.specs.Extents.{walkReply, walkOf, refusedWalk, walked, rowSizeIn}
+use Rattle.tables.specs.Extents.{walkBy, walkOf, refusedWalk, walked, rowSizeIn}
 
 module _ (o : Options) (s : List ℕ) (h : Header) where
   pub is-refused : (why : Refusal) → h ≡ opened o s → h .answer ≡ Refused why → refusedWalk (number why) ≡ walkOf o s
-  unfolding walkReply
+  unfolding walkBy
   is-refused why e f = rw (← e, f)
 
   pub is-walked : h ≡ opened o s → h .answer ≡ Ready → walked (rowSizeIn o h) (h .counts) (length s) (h .first) ≡ walkOf o s
-  unfolding walkReply
+  unfolding walkBy
   is-walked e f = rw (← e, f)
 
 -- A walk depends on the index sizes alone, not on how they were found.

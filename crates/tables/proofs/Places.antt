@@ -16,8 +16,10 @@ use Rattle.header.specs.declared.Header.{Header}
 use Rattle.header.specs.declared.Opened.{Opened}
 use Rattle.header.specs.declared.Opened.the-variants.{Refused, Ready}
 use Rattle.header.proofs.Cases.{first-within, ready-first}
+use Rattle.layouts.specs.Columns.{widthIn, rowSize}
+use Rattle.layouts.specs.declared.IndexSizes.{IndexSizes}
 use Rattle.layouts.proofs.Facts.{size-pos}
-use Rattle.tables.specs.Extents.{startOf, isTable, stopKind, wholeRows, ifReached, walked, rowSizeIn, answered, walkReply, Extent, extent}
+use Rattle.tables.specs.Extents.{startOf, isTable, stopKind, wholeRows, ifReached, walked, rowSizeIn, counted, sizesIn, answered, walkBy, Extent, extentBy, extent}
 use Rattle.tables.specs.Apart.{Inside, tableOf, TablesApart}
 
 zeros : (k : ℕ) → getD (replicate {A = ℕ} 64 0) k 0 ≡ 0
@@ -115,13 +117,13 @@ pub record Found (o : Options) (h : Header) (n k p : ℕ) : Type 0 where
   pub lies-at : Lies (rowSizeIn o h) (h .counts) n (h .first) k p
 
 found-by : (o : Options) (h : Header) (n : ℕ) (a : Opened) (k p : ℕ) → h .answer ≡ a
-    → Inside (record { start = getD (answered a o h n .starts) k 0; size = getD (answered a o h n .sizes) k 0; rows = getD (answered a o h n .rows) k 0 }) p
+    → (let r = answered a (sizesIn o h) h n in Inside (record { start = getD (r .starts) k 0; size = getD (r .sizes) k 0; rows = getD (r .rows) k 0 }) p)
     → Found o h n k p
 found-by o h n (Refused why) k p e i = absurd (omega (arith, zero-mul 0, rw (zeros k) at i))
 found-by o h n Ready k p e i = record { ready = e; lies-at = lies (rowSizeIn o h) (h .counts) n (h .first) k p i }
 
 pub found : (o : Options) (h : Header) (n k p : ℕ) → Inside (extent o h n k) p → Found o h n k p
-unfolding extent walkReply
+unfolding extentBy walkBy
 found o h n k p i = found-by o h n (h .answer) k p refl i
 
 -- A table with rows in it: its row size is that of its columns, and its rows lie within the stream.
@@ -153,16 +155,16 @@ module _ (size : ℕ → ℕ) (counts : List ℕ) (n first : ℕ) where
       let c = table-at (ifReached size counts n first (wholeRows size counts n first)) 0 64 k l in
       rw (a, b, c) (stands-seen (leb k (stopKind size counts n first)) (isTable size counts n first k) k z (rw c at h))
 
-stands-by : (o : Options) (h : Header) (n : ℕ) (a : Opened) (k : ℕ) → k < 64 → 0 < rowSizeIn o h k → 0 < getD (answered a o h n .rows) k 0
-    → (getD (answered a o h n .sizes) k 0 ≡ rowSizeIn o h k)
-    × (getD (answered a o h n .starts) k 0 + getD (answered a o h n .rows) k 0 * getD (answered a o h n .sizes) k 0 ≤ n)
-stands-by o h n (Refused why) k l z r = absurd (omega (arith, zeros k))
-stands-by o h n Ready k l z r = stands-table (rowSizeIn o h) (h .counts) n (h .first) k l z r
+stands-by : (w : IndexSizes) (h : Header) (n : ℕ) (a : Opened) (k : ℕ) → k < 64 → 0 < rowSize (widthIn w) k → 0 < getD (answered a w h n .rows) k 0
+    → (getD (answered a w h n .sizes) k 0 ≡ rowSize (widthIn w) k)
+    × (getD (answered a w h n .starts) k 0 + getD (answered a w h n .rows) k 0 * getD (answered a w h n .sizes) k 0 ≤ n)
+stands-by w h n (Refused why) k l z r = absurd (omega (arith, zeros k))
+stands-by w h n Ready k l z r = stands-table (rowSize (widthIn w)) (h .counts) n (h .first) k l z r
 
 pub stands : (o : Options) (h : Header) (n k : ℕ) → k < 45 → 0 < extent o h n k .rows → Stands o h n k
-unfolding extent walkReply
+unfolding extentBy walkBy
 stands o h n k l r =
-    let s = stands-by o h n (h .answer) k (omega arith) (size-pos (o .security) (h .heap) (h .counts) k l) r in
+    let s = stands-by (sizesIn o h) h n (h .answer) k (omega arith) (size-pos (counted o h) (h .heap) (h .counts) k l) r in
     record { sized = s .0; within = s .1 }
 
 -- A table has at most as many whole rows as its count.
@@ -173,16 +175,17 @@ module _ (size : ℕ → ℕ) (counts : List ℕ) (n first : ℕ) where
   few-seen true false k = zero-le
   few-seen true true k = omega arith
 
-few-by : (o : Options) (h : Header) (n : ℕ) (a : Opened) (k : ℕ) → k < 64 → getD (answered a o h n .rows) k 0 ≤ getD (h .counts) k 0
+few-by : (w : IndexSizes) (h : Header) (n : ℕ) (a : Opened) (k : ℕ) → k < 64 → getD (answered a w h n .rows) k 0 ≤ getD (h .counts) k 0
 unfolding walked ifReached
-few-by o h n (Refused why) k l = rw (zeros k) zero-le
-few-by o h n Ready k l =
-    rw (table-at (ifReached (rowSizeIn o h) (h .counts) n (h .first) (wholeRows (rowSizeIn o h) (h .counts) n (h .first))) 0 64 k l)
-    (few-seen (rowSizeIn o h) (h .counts) n (h .first) (leb k (stopKind (rowSizeIn o h) (h .counts) n (h .first))) (isTable (rowSizeIn o h) (h .counts) n (h .first) k) k)
+few-by w h n (Refused why) k l = rw (zeros k) zero-le
+few-by w h n Ready k l =
+    let size = rowSize (widthIn w) in
+    rw (table-at (ifReached size (h .counts) n (h .first) (wholeRows size (h .counts) n (h .first))) 0 64 k l)
+    (few-seen size (h .counts) n (h .first) (leb k (stopKind size (h .counts) n (h .first))) (isTable size (h .counts) n (h .first) k) k)
 
 pub few-rows : (o : Options) (h : Header) (n k : ℕ) → k < 64 → extent o h n k .rows ≤ getD (h .counts) k 0
-unfolding extent walkReply
-few-rows o h n k l = few-by o h n (h .answer) k l
+unfolding extentBy walkBy
+few-rows o h n k l = few-by (sizesIn o h) h n (h .answer) k l
 
 pub tables-apart : TablesApart
 tables-apart =

@@ -1,6 +1,6 @@
 -- The walk over the tables (ECMA-335 II.24.2.6; the loop of `add_metadata_tables`, `parse_table_type`): where each table begins, its row
--- size, the whole rows that fit, where the walk is left, and which rows are kept. All of it is a function of what opening found and of
--- the stream's length.
+-- size, the whole rows that fit, where the walk is left, and which rows are kept. All of it is a function of the index sizes, of what
+-- opening found and of the stream's length.
 use mathlib.Core.Bool.{Bool, true, false, cond, _&&_, _||_, not}
 use mathlib.Core.List.{List}
 use Prim.Native.Nat.{ℕ, zero, suc, _+_, _*_, _-_, _/_, min}
@@ -74,20 +74,28 @@ module _ (size : ℕ → ℕ) (counts : List ℕ) (n first : ℕ) where
 abbrev pub refusedWalk : ℕ → Walked
 refusedWalk n = record { stop = refused n; starts = replicate 64 0; sizes = replicate 64 0; rows = replicate 64 0 }
 
+-- Whether DeclSecurity counts for HasCustomAttribute (II.24.2.6): all that is read of the options once a stream is open.
+abbrev pub counted : Options → Header → Bool
+counted o h = o .security
+
 -- The index sizes and row sizes of a stream that was opened with these options.
 abbrev pub sizesIn : Options → Header → IndexSizes
-sizesIn o h = indexSizes (o .security) (h .heap) (h .counts)
+sizesIn o h = indexSizes (counted o h) (h .heap) (h .counts)
 
 abbrev pub rowSizeIn : Options → Header → ℕ → ℕ
 rowSizeIn o h = rowSize (widthIn (sizesIn o h))
 
--- The walk's reply, by what opening found and by the stream's length.
-abbrev pub answered : Opened → Options → Header → ℕ → Walked
-answered (Refused why) o h n = refusedWalk (number why)
-answered Ready o h n = walked (rowSizeIn o h) (h .counts) n (h .first)
+-- The walk's reply, by the index sizes, by what opening found and by the stream's length.
+abbrev pub answered : Opened → IndexSizes → Header → ℕ → Walked
+answered (Refused why) w h n = refusedWalk (number why)
+answered Ready w h n = walked (rowSize (widthIn w)) (h .counts) n (h .first)
 
-unfoldable pub walkReply : Options → Header → ℕ → Walked
-walkReply o h n = answered (h .answer) o h n
+unfoldable pub walkBy : IndexSizes → Header → ℕ → Walked
+walkBy w h n = answered (h .answer) w h n
+
+-- The same by the options, and of a stream.
+abbrev pub walkReply : Options → Header → ℕ → Walked
+walkReply o h n = walkBy (sizesIn o h) h n
 
 abbrev pub walkOf : Options → List ℕ → Walked
 walkOf o s = walkReply o (opened o s) (length s)
@@ -98,17 +106,23 @@ pub record Extent : Type 0 where
   pub size : ℕ
   pub rows : ℕ
 
-unfoldable pub extent : Options → Header → ℕ → ℕ → Extent
-extent o h n k =
-    let w = walkReply o h n in
-    record { start = getD (w .starts) k 0; size = getD (w .sizes) k 0; rows = getD (w .rows) k 0 }
+unfoldable pub extentBy : IndexSizes → Header → ℕ → ℕ → Extent
+extentBy w h n k =
+    let reply = walkBy w h n in
+    record { start = getD (reply .starts) k 0; size = getD (reply .sizes) k 0; rows = getD (reply .rows) k 0 }
+
+abbrev pub extent : Options → Header → ℕ → ℕ → Extent
+extent o h n k = extentBy (sizesIn o h) h n k
 
 -- TypeRef, InterfaceImpl, MemberRef and TypeSpec are kept only entire (`read_bytes` of the whole table); of every other table the whole
 -- rows before a cut are kept.
 unfoldable pub onlyEntire : ℕ → Bool
 onlyEntire k = eqb k typeRef || (eqb k interfaceImpl || (eqb k memberRef || eqb k typeSpec))
 
-unfoldable pub keptRows : Options → Header → ℕ → ℕ → ℕ
-keptRows o h n k =
-    let rows = extent o h n k .rows in
+unfoldable pub keptBy : IndexSizes → Header → ℕ → ℕ → ℕ
+keptBy w h n k =
+    let rows = extentBy w h n k .rows in
     cond (onlyEntire k && not (eqb rows (getD (h .counts) k 0))) 0 rows
+
+abbrev pub keptRows : Options → Header → ℕ → ℕ → ℕ
+keptRows o h n k = keptBy (sizesIn o h) h n k

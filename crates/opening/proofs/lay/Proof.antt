@@ -6,7 +6,7 @@ use lib.ListN.{getD}
 use Rattle.header.specs.declared.Opened.the-variants.{Ready}
 use Rattle.layouts.specs.Read.{offsetIn, bytesIn}
 use Rattle.layouts.proofs.Facts.{size-pos}
-use Rattle.tables.specs.Extents.{walkReply}
+use Rattle.tables.specs.Extents.{walkBy}
 use Rattle.tables.proofs.Outcome.{same-walk}
 use Rattle.rows.specs.Columns as columns
 use Rattle.rows.specs.Layout.{layoutOf}
@@ -209,7 +209,7 @@ loop-less c = search needs
 
 -- src/lib.rt:89:5
 loop-again : tie.Need-loop-again Inv-loop μ-loop
-unfolding walkReply
+unfolding walkBy
 loop-again c =
     let kept = c in
     let three = kept .before .before .before in
