@@ -14,7 +14,7 @@ use Rattle.numbers.proofs.Pick.{pick, pick-lt, pick-le}
 use Rattle.buffers.specs.Texts.{Text, q, digits, decimal}
 use Rattle.buffers.specs.Replies.{number, Answer, refused, value}
 use Rattle.buffers.specs.declared.Refusal.{Refusal}
-use Rattle.buffers.specs.declared.Refusal.the-variants.{ShortHeader, ShortCounts, TooManyRows, NoSuchRow, NoName, BufferTooSmall, NotFound, BadInput}
+use Rattle.buffers.specs.declared.Refusal.the-variants.{ShortHeader, ShortCounts, TooManyRows, NoSuchRow, NoName, BufferTooSmall, NotFound, BadInput, BadRoot, NoTables, TooManySteps, Disorder, NestedTwice, StoppedEarly}
 use Rattle.header.specs.Stream.{base, opened}
 use Rattle.header.specs.declared.Header.{Header}
 use Rattle.header.specs.declared.Opened.{Opened}
@@ -83,6 +83,12 @@ refusal-narrow NoName = omega arith
 refusal-narrow BufferTooSmall = omega arith
 refusal-narrow NotFound = omega arith
 refusal-narrow BadInput = omega arith
+refusal-narrow BadRoot = omega arith
+refusal-narrow NoTables = omega arith
+refusal-narrow TooManySteps = omega arith
+refusal-narrow Disorder = omega arith
+refusal-narrow NestedTwice = omega arith
+refusal-narrow StoppedEarly = omega arith
 
 module _ (size : ℕ → ℕ) (counts : List ℕ) (n first : ℕ) where
   stop-from : (m k : ℕ) → stopFrom size counts n first m k ≤ k + m

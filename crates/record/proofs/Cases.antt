@@ -9,7 +9,7 @@ use Rattle.tables.specs.Extents.{startOf, isTable, passes, stopFrom, stopKind, 
 use Rattle.record.specs.Readings.{times}
 use Rattle.numbers.specs.Compressed.{packed, bits7, bits14, bits29, uint, unrotated, sint}
 use Rattle.record.specs.Dims.{sep, signed as signedText, dim, dims}
-use Rattle.buffers.specs.Texts.{digits, decimal}
+use Rattle.buffers.specs.Texts.{same, digits, decimal}
 use Rattle.heaps.specs.Lookups.{before, stringAt, bytesAt, blobAt, string, blob}
 use Rattle.record.specs.Columns.{column}
 use Rattle.record.specs.Namespaces.{cut, fullName, nameOf, ownNamespace}
@@ -19,7 +19,7 @@ use Rattle.record.specs.Names.{classes, classFullName, refFullName, spec
 use Rattle.record.specs.Methods.{takes, leftOver, leftAfter, tries, signature, readBy, handle, pass, signatureOf, parameterName}
 use Rattle.record.specs.Record.{method, class, classRecord}
 use Rattle.buffers.specs.Replies.{nameReply, nameBuffer}
-use Rattle.record.specs.Cases.{same, sameℤ, is, sameAnswer, nowhere, unsigned, signed, rendered, all, cases, TwelveCases, moreCases, MoreCases, Limits, Buffers, wholeTables, wholeStrings, WholeCase, threeTables, threeStrings, threeBlob, ThreeClasses, richTables, richStrings, richBlob, RichCase, cutStrings, cutTypes, interfacesEnding, CutTables, nesting, nestingStrings, NestedNames}
+use Rattle.record.specs.Cases.{sameℤ, is, sameAnswer, nowhere, unsigned, signed, rendered, all, cases, TwelveCases, moreCases, MoreCases, Limits, Buffers, wholeTables, wholeStrings, WholeCase, threeTables, threeStrings, threeBlob, ThreeClasses, richTables, richStrings, richBlob, RichCase, cutStrings, cutTypes, interfacesEnding, CutTables, nesting, nestingStrings, NestedNames}
 
 pub twelve : TwelveCases
 unfolding cases all rendered signed unsigned nowhere is sameℤ sameAnswer same packed bits7 bits14 bits29 uint unrotated sint times sep digits decimal signedText dim dims look names simple typeFullName counted methodStart arguments shown parameters around classType generic shape array instance fnPtr modified form within type

@@ -11,7 +11,7 @@ use lib.ListN.{replicate}
 use Rattle.buffers.specs.declared.Refusal.the-variants.{TooManyRows}
 use Rattle.header.specs.declared.Opened.the-variants.{Refused, Ready}
 use Rattle.numbers.specs.Compressed.{uint, sint}
-use Rattle.buffers.specs.Texts.{Text, q}
+use Rattle.buffers.specs.Texts.{Text, q, same}
 use Rattle.record.specs.Types.{Env, type}
 use Rattle.tables.specs.Extents.{sizesIn}
 use Rattle.record.specs.View.{View, view}
@@ -21,13 +21,7 @@ use Rattle.record.specs.Record.{Method, classRecord}
 use Rattle.buffers.specs.Replies.{Answer, refused, value, nameOr5, nameReply, nameBuffer}
 use Rattle.record.specs.Answers.{walkAnswer}
 
--- Equal texts, equal numbers with a sign, and equal values that may be missing.
-unfoldable pub same : Text → Text → Bool
-same [] [] = true
-same [] (b ∷ t) = false
-same (a ∷ s) [] = false
-same (a ∷ s) (b ∷ t) = eqb a b && same s t
-
+-- Equal numbers with a sign, and equal values that may be missing.
 unfoldable pub sameℤ : ℤ → ℤ → Bool
 sameℤ (pos a) (pos b) = eqb a b
 sameℤ (pos a) (negsuc b) = false
