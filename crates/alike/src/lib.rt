@@ -3,6 +3,8 @@
 use buffers::Reply;
 use classes::ClassNumber;
 use header::Options;
+use questions::NameQuestion;
+use questions::NumberQuestion;
 use tables::Extents;
 ghost use mathlib.Core.Path.{_≡_};
 ghost use lib.ListN.{length};
@@ -321,5 +323,42 @@ fn param_name_alike(
 {
     let before = dotnet::param_name(t, strings, blob, options, class, m, p, buf);
     let after = dotnet::param_name(u, strings, blob, options, class, m, p, other);
+    Replies { before, after }
+}
+
+// Any call for a number.
+fn ask_number_alike(
+    t: &[u8],
+    u: &[u8],
+    strings: &[u8],
+    blob: &[u8],
+    options: Options,
+    question: NumberQuestion,
+) -> Replies
+    requires { ⌜ Rearranged options (now t) (now u) ⌝ }
+    ensures { λ r. ⌜ r .after ≡ r .before ⌝ }
+{
+    let before = dotnet::ask_number(t, strings, blob, options, question);
+    let after = dotnet::ask_number(u, strings, blob, options, question);
+    Replies { before, after }
+}
+
+// Any call for a name.
+fn ask_name_alike(
+    t: &[u8],
+    u: &[u8],
+    strings: &[u8],
+    blob: &[u8],
+    options: Options,
+    question: NameQuestion,
+    buf: &mut [u8],
+    other: &mut [u8],
+) -> Replies
+    requires { ⌜ Rearranged options (now t) (now u) ⌝ }
+    requires { ⌜ length (now other) ≡ length (now buf) ⌝ }
+    ensures { λ r. ⌜ (r .after ≡ r .before) × (now (other .exit) ≡ now (buf .exit)) ⌝ }
+{
+    let before = dotnet::ask_name(t, strings, blob, options, question, buf);
+    let after = dotnet::ask_name(u, strings, blob, options, question, other);
     Replies { before, after }
 }

@@ -4,6 +4,8 @@ use buffers::Reply;
 use classes::ClassNumber;
 use header::Options;
 use heaps::Heap;
+use questions::NameQuestion;
+use questions::NumberQuestion;
 use tables::Extents;
 ghost use mathlib.Core.Path.{_≡_};
 ghost use Rattle.buffers.specs.Replies.{Named};
@@ -11,7 +13,8 @@ ghost use Rattle.header.specs.Stream.{base};
 ghost use Rattle.heaps.specs.Lookups.{Looked};
 ghost use Rattle.tables.specs.Extents.{walkSays, walkOf};
 ghost use Rattle.record.specs.View.{view};
-ghost use Rattle.record.specs.Answers.{Numbered, classCount, classFlags, className, genericCount, genericName, baseCount, baseName, methodCount, methodFlags, methodName, methodGenericCount, methodGenericName, returnType, parameterCount, parameterType, parameterName};
+ghost use Rattle.record.specs.Answers.{Numbered, numberAnswer, nameAnswer, classCount, classFlags, className, genericCount, genericName, baseCount, baseName, methodCount, methodFlags, methodName, methodGenericCount, methodGenericName, returnType, parameterCount, parameterType, parameterName};
+ghost use Rattle.questions.specs.Questions.{numberCall, nameCall};
 
 // The walk of the base.
 pub fn walk(tables: &[u8]) -> Extents
@@ -273,4 +276,33 @@ pub fn param_name(
         ⌜ Named (parameterName v (class .0) m p) (now (buf .entry)) r (now (buf .exit)) ⌝ }
 {
     signature_calls::param_name(tables, strings, blob, options, class, m, p, buf)
+}
+
+// Any call for a number, as a question.
+pub fn ask_number(
+    tables: &[u8],
+    strings: &[u8],
+    blob: &[u8],
+    options: Options,
+    question: NumberQuestion,
+) -> Reply
+    ensures { λ r. let v = view options (now (tables .entry)) (now (strings .entry)) (now (blob .entry)) in
+        ⌜ Numbered (numberAnswer (numberCall question) v) r ⌝ }
+{
+    asks::ask_number(tables, strings, blob, options, question)
+}
+
+// Any call for a name, as a question.
+pub fn ask_name(
+    tables: &[u8],
+    strings: &[u8],
+    blob: &[u8],
+    options: Options,
+    question: NameQuestion,
+    buf: &mut [u8],
+) -> Reply
+    ensures { λ r. let v = view options (now (tables .entry)) (now (strings .entry)) (now (blob .entry)) in
+        ⌜ Named (nameAnswer (nameCall question) v) (now (buf .entry)) r (now (buf .exit)) ⌝ }
+{
+    asks::ask_name(tables, strings, blob, options, question, buf)
 }
