@@ -4,11 +4,19 @@
  *
  *     cc -std=c11 -Iinclude program.c target/staticlib/libdotnet_c.a
  *
+ * Of other code the archive needs memcpy and memset alone.
+ *
  * Three streams are lent to a call: the tables stream (II.24.2.6), the strings heap (II.24.2.3) and the blob heap (II.24.2.4), each as a
  * pointer and a length. An absent heap is one of length 0. A pointer may be null where its length is 0, also that of the tables stream
- * or of a name buffer. The streams may be any bytes and may overlap one another; a name buffer overlaps nothing else. Nothing may write
- * to a stream while a call runs. A call keeps nothing: it writes to its name buffer and to nothing else, allocates nothing, and may run
- * in many threads at once.
+ * or of a buffer. The streams may be any bytes and may overlap one another; a buffer overlaps nothing else. Nothing may write to a stream
+ * while a call runs. A call keeps nothing: it writes to its buffer and to nothing else, allocates nothing, and may run in many threads at
+ * once.
+ *
+ * Then come the options, a set of bits that says how the streams are opened: 0 is the base. No other bit has a meaning yet, and bits
+ * without one are ignored. A dn_streams holds all seven, and DN_STREAMS spreads it:
+ *
+ *     dn_streams s = {tables, tables_len, strings, strings_len, blob, blob_len, 0};
+ *     dn_reply r = dn_class_name(DN_STREAMS(s), class_number, buf, buf_len);
  *
  * Classes, methods, generic parameters, base types and parameters are meant by their place, from 0: a class in the record, a method,
  * generic parameter or base type in its class, a generic parameter or parameter of a method in its method.
@@ -18,9 +26,9 @@
  *     1  the tables stream has fewer than 24 bytes
  *     2  fewer than 4 bytes for each set bit of the valid mask follow the header
  *     3  some table has more than 15,000 rows
- *     4  the class, method, generic parameter, base type or parameter asked for is not in the record
+ *     4  the class, method, generic parameter, base type or parameter asked for is not in the record; or there is no such question
  *     5  the name asked for is missing
- *     6  the name is longer than its buffer
+ *     6  the name is longer than its buffer; how long it is is not told, so a caller doubles the buffer and asks again
  *     7  a heap lookup finds nothing
  *
  * A call for a name answers its length. Its bytes then stand at the front of the buffer, and every other byte of the buffer is 0; so is
@@ -39,6 +47,10 @@
 extern "C" {
 #endif
 
+/* The version of this interface, and that of the archive. What changes a signature, a struct or DN_LONGEST_LINE raises both. */
+#define DN_VERSION 1u
+uint32_t dn_version(void);
+
 /* What a refusal's number means. */
 enum {
     DN_OK = 0,
@@ -53,6 +65,42 @@ enum {
 
 /* The heap that a lookup means. */
 enum { DN_STRINGS = 0, DN_BLOBS = 1 };
+
+/* The questions: any call by its number, which never changes. Those below 100 are for dn_ask_number, those above for dn_ask_name. */
+enum {
+    DN_ASK_CLASS_COUNT = 1,
+    DN_ASK_CLASS_FLAGS = 2,
+    DN_ASK_GENERIC_COUNT = 3,
+    DN_ASK_BASE_COUNT = 4,
+    DN_ASK_METHOD_COUNT = 5,
+    DN_ASK_METHOD_FLAGS = 6,
+    DN_ASK_METHOD_GENERIC_COUNT = 7,
+    DN_ASK_PARAM_COUNT = 8,
+    DN_ASK_CLASS_NAME = 101,
+    DN_ASK_GENERIC_NAME = 102,
+    DN_ASK_BASE_NAME = 103,
+    DN_ASK_METHOD_NAME = 104,
+    DN_ASK_METHOD_GENERIC_NAME = 105,
+    DN_ASK_RETURN_TYPE = 106,
+    DN_ASK_PARAM_TYPE = 107,
+    DN_ASK_PARAM_NAME = 108
+};
+
+/* A buffer of so many bytes holds every line of a listing. */
+enum { DN_LONGEST_LINE = 4106 };
+
+/* The three streams and the options, and the seven leading arguments that they make. */
+typedef struct dn_streams {
+    const uint8_t *tables;
+    size_t tables_len;
+    const uint8_t *strings;
+    size_t strings_len;
+    const uint8_t *blob;
+    size_t blob_len;
+    uint32_t options;
+} dn_streams;
+#define DN_STREAMS(s) \
+    (s).tables, (s).tables_len, (s).strings, (s).strings_len, (s).blob, (s).blob_len, (s).options
 
 /* The number asked for, which for a name is its length. */
 typedef struct dn_reply {
@@ -74,83 +122,130 @@ typedef struct dn_part {
     size_t refusal;
 } dn_part;
 
+/* Where a listing goes on: what the next line is about, and the class, the method and the item in these. All 0 is the beginning. */
+typedef struct dn_cursor {
+    uint32_t place;
+    uint32_t class_number;
+    uint32_t method;
+    uint32_t item;
+} dn_cursor;
+
+/* A piece of a listing: its bytes in the buffer, 1 where the listing is done with it and else 0, and where it goes on. */
+typedef struct dn_piece {
+    size_t used;
+    size_t done;
+    dn_cursor next;
+} dn_piece;
+
 /* The kind of table (II.22) at which the walk over the tables is left: the first with rows that is unknown or that does not fit in the
  * stream; 64 if there is none. Refusals: 1, 2, 3. */
-dn_reply dn_walk_stop(const uint8_t *tables, size_t tables_len);
+dn_reply dn_walk_stop(const uint8_t *tables, size_t tables_len, uint32_t options);
 
 /* The extent of a kind's table. All 0 for a kind that is empty, unknown or not reached, above 63, or where the stream is refused. */
-dn_extent dn_walk_extent(const uint8_t *tables, size_t tables_len, uint32_t kind);
+dn_extent dn_walk_extent(const uint8_t *tables, size_t tables_len, uint32_t options, uint32_t kind);
 
 /* The string or the blob at an index of its heap. Refusals: 7, also where `which` is neither DN_STRINGS nor DN_BLOBS. */
 dn_part dn_lookup(const uint8_t *strings, size_t strings_len, const uint8_t *blobs, size_t blobs_len, uint32_t which, uint32_t index);
 
 /* How many classes there are: the TypeDef rows after the first. Refusals: 1, 2, 3. */
 dn_reply dn_class_count(const uint8_t *tables, size_t tables_len, const uint8_t *strings, size_t strings_len,
-                        const uint8_t *blob, size_t blob_len);
+                        const uint8_t *blob, size_t blob_len, uint32_t options);
 
 /* The flags of a class (II.23.1.15). Refusals: 1 to 4. */
 dn_reply dn_class_flags(const uint8_t *tables, size_t tables_len, const uint8_t *strings, size_t strings_len,
-                        const uint8_t *blob, size_t blob_len, uint32_t class_number);
+                        const uint8_t *blob, size_t blob_len, uint32_t options,
+                        uint32_t class_number);
 
 /* The full name of a class: its namespace, a dot and its name up to the first back-quote. The namespace of a nested class is the full
  * name of the class around it. Refusals: 1 to 6. */
 dn_reply dn_class_name(const uint8_t *tables, size_t tables_len, const uint8_t *strings, size_t strings_len,
-                       const uint8_t *blob, size_t blob_len, uint32_t class_number, uint8_t *buf, size_t buf_len);
+                       const uint8_t *blob, size_t blob_len, uint32_t options,
+                       uint32_t class_number, uint8_t *buf, size_t buf_len);
 
 /* How many generic parameters a class has. Refusals: 1 to 4. */
 dn_reply dn_generic_count(const uint8_t *tables, size_t tables_len, const uint8_t *strings, size_t strings_len,
-                          const uint8_t *blob, size_t blob_len, uint32_t class_number);
+                          const uint8_t *blob, size_t blob_len, uint32_t options,
+                          uint32_t class_number);
 
 /* The name of a generic parameter of a class. Refusals: 1 to 6. */
 dn_reply dn_generic_name(const uint8_t *tables, size_t tables_len, const uint8_t *strings, size_t strings_len,
-                         const uint8_t *blob, size_t blob_len, uint32_t class_number, uint32_t generic, uint8_t *buf, size_t buf_len);
+                         const uint8_t *blob, size_t blob_len, uint32_t options,
+                         uint32_t class_number, uint32_t generic, uint8_t *buf, size_t buf_len);
 
 /* How many base types a class has: those that have a name, the extended type first, then the interfaces. Refusals: 1 to 4. */
 dn_reply dn_base_count(const uint8_t *tables, size_t tables_len, const uint8_t *strings, size_t strings_len,
-                       const uint8_t *blob, size_t blob_len, uint32_t class_number);
+                       const uint8_t *blob, size_t blob_len, uint32_t options,
+                       uint32_t class_number);
 
 /* The name of a base type of a class. Refusals: 1 to 4, 6. */
 dn_reply dn_base_name(const uint8_t *tables, size_t tables_len, const uint8_t *strings, size_t strings_len,
-                      const uint8_t *blob, size_t blob_len, uint32_t class_number, uint32_t base, uint8_t *buf, size_t buf_len);
+                      const uint8_t *blob, size_t blob_len, uint32_t options,
+                      uint32_t class_number, uint32_t base, uint8_t *buf, size_t buf_len);
 
 /* How many methods a class has. Refusals: 1 to 4. */
 dn_reply dn_method_count(const uint8_t *tables, size_t tables_len, const uint8_t *strings, size_t strings_len,
-                         const uint8_t *blob, size_t blob_len, uint32_t class_number);
+                         const uint8_t *blob, size_t blob_len, uint32_t options,
+                         uint32_t class_number);
 
 /* The flags of a method (II.23.1.10). Refusals: 1 to 4. */
 dn_reply dn_method_flags(const uint8_t *tables, size_t tables_len, const uint8_t *strings, size_t strings_len,
-                         const uint8_t *blob, size_t blob_len, uint32_t class_number, uint32_t method);
+                         const uint8_t *blob, size_t blob_len, uint32_t options,
+                         uint32_t class_number, uint32_t method);
 
 /* The name of a method. Refusals: 1 to 6. */
 dn_reply dn_method_name(const uint8_t *tables, size_t tables_len, const uint8_t *strings, size_t strings_len,
-                        const uint8_t *blob, size_t blob_len, uint32_t class_number, uint32_t method, uint8_t *buf, size_t buf_len);
+                        const uint8_t *blob, size_t blob_len, uint32_t options,
+                        uint32_t class_number, uint32_t method, uint8_t *buf, size_t buf_len);
 
 /* How many generic parameters a method has. Refusals: 1 to 4. */
 dn_reply dn_method_generic_count(const uint8_t *tables, size_t tables_len, const uint8_t *strings, size_t strings_len,
-                                 const uint8_t *blob, size_t blob_len, uint32_t class_number, uint32_t method);
+                                 const uint8_t *blob, size_t blob_len, uint32_t options,
+                                 uint32_t class_number, uint32_t method);
 
 /* The name of a generic parameter of a method. Refusals: 1 to 6. */
 dn_reply dn_method_generic_name(const uint8_t *tables, size_t tables_len, const uint8_t *strings, size_t strings_len,
-                                const uint8_t *blob, size_t blob_len, uint32_t class_number, uint32_t method, uint32_t generic,
-                                uint8_t *buf, size_t buf_len);
+                                const uint8_t *blob, size_t blob_len, uint32_t options,
+                                uint32_t class_number, uint32_t method, uint32_t generic, uint8_t *buf, size_t buf_len);
 
 /* The return type of a method, as text. Refusals: 1 to 6. */
 dn_reply dn_return_type(const uint8_t *tables, size_t tables_len, const uint8_t *strings, size_t strings_len,
-                        const uint8_t *blob, size_t blob_len, uint32_t class_number, uint32_t method, uint8_t *buf, size_t buf_len);
+                        const uint8_t *blob, size_t blob_len, uint32_t options,
+                        uint32_t class_number, uint32_t method, uint8_t *buf, size_t buf_len);
 
 /* How many parameters a method has. Refusals: 1 to 4. */
 dn_reply dn_param_count(const uint8_t *tables, size_t tables_len, const uint8_t *strings, size_t strings_len,
-                        const uint8_t *blob, size_t blob_len, uint32_t class_number, uint32_t method);
+                        const uint8_t *blob, size_t blob_len, uint32_t options,
+                        uint32_t class_number, uint32_t method);
 
 /* The type of a parameter of a method, as text. Refusals: 1 to 6. */
 dn_reply dn_param_type(const uint8_t *tables, size_t tables_len, const uint8_t *strings, size_t strings_len,
-                       const uint8_t *blob, size_t blob_len, uint32_t class_number, uint32_t method, uint32_t parameter,
-                       uint8_t *buf, size_t buf_len);
+                       const uint8_t *blob, size_t blob_len, uint32_t options,
+                       uint32_t class_number, uint32_t method, uint32_t parameter, uint8_t *buf, size_t buf_len);
 
 /* The name of a parameter of a method. Refusals: 1 to 6. */
 dn_reply dn_param_name(const uint8_t *tables, size_t tables_len, const uint8_t *strings, size_t strings_len,
-                       const uint8_t *blob, size_t blob_len, uint32_t class_number, uint32_t method, uint32_t parameter,
-                       uint8_t *buf, size_t buf_len);
+                       const uint8_t *blob, size_t blob_len, uint32_t options,
+                       uint32_t class_number, uint32_t method, uint32_t parameter, uint8_t *buf, size_t buf_len);
+
+/* Any call for a number, by its question: a, b and c are the numbers of that call in its own order, and those that it does not have are
+ * ignored. A question that there is not, or one for a name, is refused with 4, after 1, 2 and 3. */
+dn_reply dn_ask_number(const uint8_t *tables, size_t tables_len, const uint8_t *strings, size_t strings_len,
+                       const uint8_t *blob, size_t blob_len, uint32_t options,
+                       uint32_t question, uint32_t a, uint32_t b, uint32_t c);
+
+/* Any call for a name, by its question, in the same way. */
+dn_reply dn_ask_name(const uint8_t *tables, size_t tables_len, const uint8_t *strings, size_t strings_len,
+                     const uint8_t *blob, size_t blob_len, uint32_t options,
+                     uint32_t question, uint32_t a, uint32_t b, uint32_t c, uint8_t *buf, size_t buf_len);
+
+/* A piece of the listing: as many whole lines from a cursor on as the buffer holds, and zeros behind them. It is asked for with all 0, then
+ * with the cursor of the piece before, until it is done. A buffer that does not hold the next line gets 0 bytes and the same cursor;
+ * DN_LONGEST_LINE bytes always suffice. A piece takes at most 65,536 steps, some of which add no line: so it may leave room in a large
+ * buffer, or have 0 bytes, and still get on. Any numbers are a cursor, and a place that there is not is the end. A stream that is refused
+ * has one line, `refused=` and the number. A name in a line may have the byte 0x0A too. */
+dn_piece dn_listing(const uint8_t *tables, size_t tables_len, const uint8_t *strings, size_t strings_len,
+                    const uint8_t *blob, size_t blob_len, uint32_t options,
+                    dn_cursor from, uint8_t *buf, size_t buf_len);
 
 #ifdef __cplusplus
 }

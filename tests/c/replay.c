@@ -7,29 +7,17 @@
    0xAA before, and every byte is looked at afterwards. Every call is also asked with null pointers of length 0 for each choice of its
    streams and its buffer, which must answer as other pointers of length 0 do. Exit status: 0 all is as it should be, 1 something is not,
    2 a file cannot be read. */
-#include <stdio.h>
-#include <stdlib.h>
-#include <string.h>
-#include "dotnet_tables.h"
-
-typedef struct bytes {
-    uint8_t *at;
-    size_t len;
-} bytes;
+#include "recorded.h"
 
 enum { KINDS = 64 }; /* of tables */
-enum { SHOWN = 10 }; /* lines that are printed, of those that are not as they should be */
 
 static bytes tables, strings, blob;
-static size_t agreed, differed;
-static int wrong; /* whether what is replayed is wrong on purpose */
-
-#define STREAMS tables.at, tables.len, strings.at, strings.len, blob.at, blob.len
 
 /* The call of that name; `numbers` are a class and what is asked for in it. */
 static int ask(const char *call, const uint32_t *numbers, uint8_t *buf, size_t len, dn_reply *reply) {
     uint32_t c = numbers[0], m = numbers[1], p = numbers[2];
-#define CALL(name, ...) if (!strcmp(call, #name)) return *reply = dn_##name(STREAMS __VA_ARGS__), 1
+    dn_streams s = {tables.at, tables.len, strings.at, strings.len, blob.at, blob.len, 0};
+#define CALL(name, ...) if (!strcmp(call, #name)) return *reply = dn_##name(DN_STREAMS(s) __VA_ARGS__), 1
     CALL(class_count, );
     CALL(class_flags, , c);
     CALL(class_name, , c, buf, len);
@@ -49,19 +37,6 @@ static int ask(const char *call, const uint32_t *numbers, uint8_t *buf, size_t l
     return 0;
 }
 
-static bytes read_file(const char *path) {
-    FILE *file = fopen(path, "rb");
-    bytes all = {NULL, 0};
-    if (!file || fseek(file, 0, SEEK_END)) exit((perror(path), 2));
-    all.len = (size_t)ftell(file);
-    all.at = malloc(all.len + 1);
-    rewind(file);
-    if (!all.at || fread(all.at, 1, all.len, file) != all.len) exit((perror(path), 2));
-    all.at[all.len] = 0;
-    fclose(file);
-    return all;
-}
-
 /* The bytes that a text of hex digits gives; none for another text. */
 static bytes read_hex(const char *text) {
     bytes out = {malloc(strlen(text) / 2 + 1), 0};
@@ -69,12 +44,6 @@ static bytes read_hex(const char *text) {
     if (!out.at) exit(2);
     for (; sscanf(text, "%2x", &byte) == 1 && text[1]; text += 2) out.at[out.len++] = (uint8_t)byte;
     return out;
-}
-
-static int zero_from(const uint8_t *buf, size_t from, size_t len) {
-    while (from < len)
-        if (buf[from++]) return 0;
-    return 1;
 }
 
 /* Whether a name, or the refusal of one, is answered right in a buffer of that length. */
@@ -152,20 +121,6 @@ static int nulls_agree(const char *line) {
     return 1;
 }
 
-/* Counts an answer, and prints it where it is not as it should be. */
-static void tally(int agrees, const char *what) {
-    size_t count = agrees ? ++agreed : ++differed;
-    if (agrees == wrong && count <= SHOWN) printf("FAIL  %s\n", what);
-}
-
-/* Prints the counts, and answers whether there was something and all was as it should be. */
-static int report(const char *what) {
-    printf("%s%s: %zu agreed, %zu differed\n", what, wrong ? ", wrong on purpose" : "", agreed, differed);
-    int well = wrong ? differed && !agreed : agreed && !differed;
-    agreed = differed = 0;
-    return well;
-}
-
 static void stream_of(const char *line, const char *key, bytes *stream) {
     if (!strncmp(line, key, strlen(key)) && line[strlen(key)] == ' ') {
         free(stream->at);
@@ -185,7 +140,7 @@ static void replay_calls(bytes file) { replay_lines(file, answer_agrees); }
 static void replay_nulls(bytes file) { replay_lines(file, nulls_agree); }
 
 static int extent_is(uint32_t kind, size_t start, size_t size, size_t rows) {
-    dn_extent e = dn_walk_extent(tables.at, tables.len, kind);
+    dn_extent e = dn_walk_extent(tables.at, tables.len, 0, kind);
     return e.start == start && e.size == size && e.rows == rows;
 }
 
@@ -199,7 +154,7 @@ static int no_extent_from(uint32_t kind) {
 static int walk_agrees(const char *text) {
     size_t kind, start, size, rows, number;
     int used;
-    dn_reply stop = dn_walk_stop(tables.at, tables.len);
+    dn_reply stop = dn_walk_stop(tables.at, tables.len, 0);
     if (sscanf(text, "refused=%zu", &number) == 1) return stop.refusal == number && !stop.value && no_extent_from(0);
     for (uint32_t k = 0; k < KINDS; k++, text += used) {
         if (sscanf(text, "%zu %zu %zu %zu %n", &kind, &start, &size, &rows, &used) != 4) return 0;
@@ -208,19 +163,14 @@ static int walk_agrees(const char *text) {
     return sscanf(text, "stop=%zu", &number) == 1 && stop.value == number && !stop.refusal && no_extent_from(KINDS);
 }
 
-static uint32_t word(const uint8_t *at) {
-    return at[0] | (uint32_t)at[1] << 8 | (uint32_t)at[2] << 16 | (uint32_t)at[3] << 24;
-}
-
 /* Inputs that are no bundle, refusal 8, never reach the library. */
 static void replay_walks(bytes file) {
-    size_t len;
-    for (size_t at = 0; at + 8 <= file.len;) {
-        size_t input = word(file.at + at), text = word(file.at + at + 4);
-        char *in = (char *)file.at + at + 8, *expected = calloc(text + 1, 1);
-        if (!expected || at + 8 + input + text > file.len) exit(2);
-        memcpy(expected, in + input, text);
-        at += 8 + input + text;
+    bytes input, text;
+    size_t len, at = 0;
+    while (next_case(file, &at, &input, &text)) {
+        char *in = (char *)input.at, *expected = calloc(text.len + 1, 1);
+        if (!expected) exit(2);
+        memcpy(expected, text.at, text.len);
         if (strcmp(expected, "refused=8\n") && sscanf(in, "tables=%zu", &len) == 1) {
             for (int lines = 0; lines < 3; lines++) in = strchr(in, '\n') + 1;
             free(tables.at);
@@ -245,22 +195,14 @@ static void lookups(void) {
 
 /* What takes no class: by null pointers of length 0 there is nothing. */
 static void nulls(void) {
-    dn_reply stop = dn_walk_stop(NULL, 0);
-    dn_extent extent = dn_walk_extent(NULL, 0, 2);
+    dn_reply stop = dn_walk_stop(NULL, 0, 0);
+    dn_extent extent = dn_walk_extent(NULL, 0, 0, 2);
     tally(!stop.value && stop.refusal == DN_SHORT_HEADER, "the walk of a null pointer");
     tally(!extent.start && !extent.size && !extent.rows, "an extent of a null pointer");
     for (uint32_t which = DN_STRINGS; which <= DN_BLOBS; which++) {
         dn_part part = dn_lookup(NULL, 0, NULL, 0, which, 0);
         tally(!part.start && !part.len && part.refusal == DN_NOT_FOUND, "a heap that is a null pointer");
     }
-}
-
-static int replay(const char *path, void (*each)(bytes), const char *what, int is_wrong) {
-    bytes file = read_file(path);
-    wrong = is_wrong;
-    each(file);
-    free(file.at);
-    return report(what);
 }
 
 int main(int count, char **words) {

@@ -14,18 +14,21 @@ struct DnReply {
     refusal: usize,
 }
 
+/// The options that say nothing.
+const BASE: u32 = 0;
+
 macro_rules! calls {
     ($($name:ident($($number:ident),*) $($buf:ident)?;)*) => {
         extern "C" {
-            $(fn $name(tables: *const u8, tables_len: usize, strings: *const u8, strings_len: usize, blob: *const u8, blob_len: usize
-                $(, $number: u32)* $(, $buf: *mut u8, buf_len: usize)?) -> DnReply;)*
+            $(fn $name(tables: *const u8, tables_len: usize, strings: *const u8, strings_len: usize, blob: *const u8, blob_len: usize,
+                options: u32 $(, $number: u32)* $(, $buf: *mut u8, buf_len: usize)?) -> DnReply;)*
         }
         /// The call of that name, with a buffer if it takes one.
         fn ask(call: &str, s: &[Vec<u8>; 3], n: &[u32], buf: &mut [u8]) -> Option<DnReply> {
             let mut rest = n.iter().copied();
             $(if stringify!($name).strip_prefix("dn_") == Some(call) {
                 // SAFETY: each slice is passed as its pointer and its length, and the buffer is lent to this call alone
-                return Some(unsafe { $name(s[0].as_ptr(), s[0].len(), s[1].as_ptr(), s[1].len(), s[2].as_ptr(), s[2].len()
+                return Some(unsafe { $name(s[0].as_ptr(), s[0].len(), s[1].as_ptr(), s[1].len(), s[2].as_ptr(), s[2].len(), BASE
                     $(, { let $number = rest.next().unwrap_or(0); $number })* $(, { let $buf = buf.as_mut_ptr(); $buf }, buf.len())?) });
             })*
             None

@@ -5,7 +5,8 @@
    Standard input holds inputs as the listing program has them, but of any length, each after a 4-byte little-endian length. Standard
    output gets for each a text after its length in the same form: for every call a line with its name and the bytes of stack that it took.
    It is asked for the first class, method, parameter and so on, on a thread with a stack of ROOM bytes, all 0 before: what it took reaches
-   down to the lowest byte that is not 0 afterwards. tests/stack reads the lines. */
+   down to the lowest byte that is not 0 afterwards. Calls by their questions have two lines, ask_number and ask_name, with what the worst
+   question took, and the first piece of the listing has one. tests/stack reads the lines. */
 #define _GNU_SOURCE
 #include <pthread.h>
 #include <stdio.h>
@@ -15,20 +16,44 @@
 #include "calls.h"
 #include "any_input.h"
 
-#define NAME 4096          /* bytes of the buffer that is lent for a name */
-#define GUARD (1 << 16)    /* bytes below the stack that are not to be touched */
-#define LINES (CALLS * 60) /* bytes of an answer */
+#define NAME 4096       /* bytes of the buffer that is lent for a name */
+#define PIECE (1 << 16) /* and for a piece of the listing */
+#define GUARD (1 << 16) /* bytes below the stack that are not to be touched */
+#define LINE 60         /* bytes of a line of an answer */
 
 static struct input input;
 static const struct call *call;
+static const uint32_t first[3];
+static uint8_t lent[PIECE];
 static char *stack, *top;
 static size_t room;
 
-static void *ask(void *none) {
-    static uint8_t name[NAME];
-    static const uint32_t first[3];
+static void *ask_call(void *none) {
     top = __builtin_frame_address(0);
-    call->ask(&input, first, (struct buffer){ name, sizeof name });
+    call->ask(&input, first, (struct buffer){ lent, NAME });
+    return none;
+}
+
+static void ask_questions(int is_name) {
+    for (const struct call *each = calls; each < calls + CALLS; each++)
+        if (each->question && each->is_name == is_name) ask_question(&input, each->question, is_name, first, (struct buffer){ lent, NAME });
+}
+
+static void *ask_numbers(void *none) {
+    top = __builtin_frame_address(0);
+    ask_questions(0);
+    return none;
+}
+
+static void *ask_names(void *none) {
+    top = __builtin_frame_address(0);
+    ask_questions(1);
+    return none;
+}
+
+static void *list(void *none) {
+    top = __builtin_frame_address(0);
+    list_piece(&input, (dn_cursor){ 0, 0, 0, 0 }, (struct buffer){ lent, PIECE });
     return none;
 }
 
@@ -38,13 +63,13 @@ static void make_stack(void) {
     stack = below + GUARD;
 }
 
-/* The bytes of stack that the call takes. */
-static size_t measure(void) {
+/* The bytes of stack that something takes. */
+static size_t measure(void *(*taking)(void *)) {
     pthread_attr_t attributes;
     pthread_t thread;
     if (madvise(stack, room, MADV_DONTNEED)) fail("a stack that cannot be cleared");
     pthread_attr_init(&attributes);
-    if (pthread_attr_setstack(&attributes, stack, room) || pthread_create(&thread, &attributes, ask, 0)) fail("no thread");
+    if (pthread_attr_setstack(&attributes, stack, room) || pthread_create(&thread, &attributes, taking, 0)) fail("no thread");
     pthread_join(thread, 0);
     pthread_attr_destroy(&attributes);
     const char *low = stack;
@@ -52,15 +77,21 @@ static size_t measure(void) {
     return (size_t)(top - low);
 }
 
+static size_t put_line(char *to, const char *name, void *(*taking)(void *)) {
+    return (size_t)snprintf(to, LINE, "%s %zu\n", name, measure(taking));
+}
+
 int main(int argc, char **argv) {
     uint8_t *data;
     room = argc == 2 ? strtoull(argv[1], 0, 10) : 0;
     make_stack();
     while ((data = read_input(&input))) {
-        char text[LINES];
+        char text[(CALLS + 3) * LINE];
         size_t size = 0;
-        for (call = calls; call < calls + CALLS; call++)
-            size += (size_t)snprintf(text + size, LINES - size, "%s %zu\n", call->name, measure());
+        for (call = calls; call < calls + CALLS; call++) size += put_line(text + size, call->name, ask_call);
+        size += put_line(text + size, "ask_number", ask_numbers);
+        size += put_line(text + size, "ask_name", ask_names);
+        size += put_line(text + size, "listing", list);
         write_answer(text, size);
         free(data);
     }

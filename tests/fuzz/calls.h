@@ -1,4 +1,5 @@
-/* Every call that answers a number or a name, under one form: the only place here that knows how they are named and what they take. */
+/* Every call that answers a number or a name, by its own name and by its question, and the listing, each under one form: the only place
+   here that knows how they are named and what they take. */
 #ifndef CALLS_H
 #define CALLS_H
 
@@ -9,10 +10,11 @@ enum { WALK_STOP, CLASS_COUNT, GENERIC_COUNT, BASE_COUNT, METHOD_COUNT, METHOD_G
 
 struct bytes { const uint8_t *at; size_t length; };
 struct buffer { uint8_t *at; size_t length; };
-struct input { struct bytes tables, strings, blob; };
+struct input { struct bytes tables, strings, blob; uint32_t options; };
 
 struct call {
     const char *name;
+    uint32_t question; /* its number; 0 where it has none */
     int rows;          /* how many numbers it takes: a class, then a method, a generic parameter, .. */
     int counted_by[3]; /* for each of them the call that says how many there are, of those before it */
     int is_name;
@@ -20,8 +22,8 @@ struct call {
 };
 
 #define TABLES in->tables.at, in->tables.length
-#define ROWS0 TABLES, in->strings.at, in->strings.length, in->blob.at, in->blob.length
-#define ROWS1 ROWS0, r[0]
+#define STREAMS TABLES, in->strings.at, in->strings.length, in->blob.at, in->blob.length, in->options
+#define ROWS1 STREAMS, r[0]
 #define ROWS2 ROWS1, r[1]
 #define ROWS3 ROWS2, r[2]
 #define BUFFER buffer.at, buffer.length
@@ -31,8 +33,8 @@ struct call {
         return dn_##name(__VA_ARGS__); \
     }
 
-FORM(walk_stop, TABLES)
-FORM(class_count, ROWS0)
+FORM(walk_stop, TABLES, in->options)
+FORM(class_count, STREAMS)
 FORM(generic_count, ROWS1)
 FORM(base_count, ROWS1)
 FORM(method_count, ROWS1)
@@ -49,26 +51,35 @@ FORM(return_type, ROWS2, BUFFER)
 FORM(param_type, ROWS3, BUFFER)
 FORM(param_name, ROWS3, BUFFER)
 
-#define CALL(name, rows, is_name, ...) { #name, rows, { __VA_ARGS__ }, is_name, ask_##name }
+/* A call by its question; the numbers that it does not have may be any. */
+static inline dn_reply ask_question(const struct input *in, uint32_t question, int is_name, const uint32_t *r, struct buffer buffer) {
+    return is_name ? dn_ask_name(STREAMS, question, r[0], r[1], r[2], BUFFER) : dn_ask_number(STREAMS, question, r[0], r[1], r[2]);
+}
+
+static inline dn_piece list_piece(const struct input *in, dn_cursor from, struct buffer buffer) {
+    return dn_listing(STREAMS, from, BUFFER);
+}
+
+#define CALL(NAME, name, rows, is_name, ...) [NAME] = { #name, DN_ASK_##NAME, rows, { __VA_ARGS__ }, is_name, ask_##name }
 
 static const struct call calls[CALLS] = {
-    [WALK_STOP] = CALL(walk_stop, 0, 0, 0),
-    [CLASS_COUNT] = CALL(class_count, 0, 0, 0),
-    [GENERIC_COUNT] = CALL(generic_count, 1, 0, CLASS_COUNT),
-    [BASE_COUNT] = CALL(base_count, 1, 0, CLASS_COUNT),
-    [METHOD_COUNT] = CALL(method_count, 1, 0, CLASS_COUNT),
-    [METHOD_GENERIC_COUNT] = CALL(method_generic_count, 2, 0, CLASS_COUNT, METHOD_COUNT),
-    [PARAM_COUNT] = CALL(param_count, 2, 0, CLASS_COUNT, METHOD_COUNT),
-    [CLASS_FLAGS] = CALL(class_flags, 1, 0, CLASS_COUNT),
-    [METHOD_FLAGS] = CALL(method_flags, 2, 0, CLASS_COUNT, METHOD_COUNT),
-    [CLASS_NAME] = CALL(class_name, 1, 1, CLASS_COUNT),
-    [GENERIC_NAME] = CALL(generic_name, 2, 1, CLASS_COUNT, GENERIC_COUNT),
-    [BASE_NAME] = CALL(base_name, 2, 1, CLASS_COUNT, BASE_COUNT),
-    [METHOD_NAME] = CALL(method_name, 2, 1, CLASS_COUNT, METHOD_COUNT),
-    [METHOD_GENERIC_NAME] = CALL(method_generic_name, 3, 1, CLASS_COUNT, METHOD_COUNT, METHOD_GENERIC_COUNT),
-    [RETURN_TYPE] = CALL(return_type, 2, 1, CLASS_COUNT, METHOD_COUNT),
-    [PARAM_TYPE] = CALL(param_type, 3, 1, CLASS_COUNT, METHOD_COUNT, PARAM_COUNT),
-    [PARAM_NAME] = CALL(param_name, 3, 1, CLASS_COUNT, METHOD_COUNT, PARAM_COUNT),
+    [WALK_STOP] = { "walk_stop", 0, 0, { 0 }, 0, ask_walk_stop },
+    CALL(CLASS_COUNT, class_count, 0, 0, 0),
+    CALL(GENERIC_COUNT, generic_count, 1, 0, CLASS_COUNT),
+    CALL(BASE_COUNT, base_count, 1, 0, CLASS_COUNT),
+    CALL(METHOD_COUNT, method_count, 1, 0, CLASS_COUNT),
+    CALL(METHOD_GENERIC_COUNT, method_generic_count, 2, 0, CLASS_COUNT, METHOD_COUNT),
+    CALL(PARAM_COUNT, param_count, 2, 0, CLASS_COUNT, METHOD_COUNT),
+    CALL(CLASS_FLAGS, class_flags, 1, 0, CLASS_COUNT),
+    CALL(METHOD_FLAGS, method_flags, 2, 0, CLASS_COUNT, METHOD_COUNT),
+    CALL(CLASS_NAME, class_name, 1, 1, CLASS_COUNT),
+    CALL(GENERIC_NAME, generic_name, 2, 1, CLASS_COUNT, GENERIC_COUNT),
+    CALL(BASE_NAME, base_name, 2, 1, CLASS_COUNT, BASE_COUNT),
+    CALL(METHOD_NAME, method_name, 2, 1, CLASS_COUNT, METHOD_COUNT),
+    CALL(METHOD_GENERIC_NAME, method_generic_name, 3, 1, CLASS_COUNT, METHOD_COUNT, METHOD_GENERIC_COUNT),
+    CALL(RETURN_TYPE, return_type, 2, 1, CLASS_COUNT, METHOD_COUNT),
+    CALL(PARAM_TYPE, param_type, 3, 1, CLASS_COUNT, METHOD_COUNT, PARAM_COUNT),
+    CALL(PARAM_NAME, param_name, 3, 1, CLASS_COUNT, METHOD_COUNT, PARAM_COUNT),
 };
 
 #endif

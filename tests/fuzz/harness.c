@@ -1,8 +1,10 @@
 /* The compiled calls, under inputs and buffers of every kind. What a proof says of them is seen here in the archive that users link.
 
      harness lengths SEEDS         every call for a name, with buffers of every length from 0 to two past the name, filled with 0x00, 0xAA
-                                   and 0xFF: one reply, and the same bytes afterwards
-     harness inputs SEEDS N SEED   N inputs, made from the seeds by mutation or from nothing: every call, with numbers inside and outside
+                                   and 0xFF: one reply, and the same bytes afterwards, also by its question
+     harness inputs SEEDS N SEED   N inputs, made from the seeds by mutation or from nothing: every call, with numbers inside and outside,
+                                   by its name and by its question and with any options; questions that there are not; and pieces of the
+                                   listing from anywhere
 
    SEEDS is a file of inputs of the listing program, each after a 4-byte little-endian length. Every stream ends where memory ends, the
    buffer too, and before the buffer stand bytes that must stay. Exit status: 0 all well, 1 something is wrong, 2 no seeds or no memory. */
@@ -21,6 +23,7 @@
 #define MOST 65536           /* bytes of an input */
 #define ROOM (1 << 20)       /* bytes of the largest buffer */
 #define CANARY 64            /* bytes before the buffer */
+#define PLACES 13            /* of a listing */
 #define TICK 50000           /* microseconds */
 #define TICKS_A_CALL 6
 
@@ -50,6 +53,7 @@ static void place(void) {
         *to[i] = (struct bytes){ streams[i].end - lengths[i], lengths[i] };
         memcpy(streams[i].end - lengths[i], copy[i], lengths[i]);
     }
+    input.options = 0;
 }
 
 static int are_unchanged(void) {
@@ -61,8 +65,7 @@ static int are_unchanged(void) {
 /* ---- what is wrong, and what takes too long */
 
 static unsigned long asked, wrong, slow;
-static const struct call *current;
-static uint32_t current_rows[3];
+static struct current { const char *name; uint32_t numbers[4]; size_t room; } current;
 static volatile sig_atomic_t ticks, armed;
 static sigjmp_buf too_long;
 
@@ -81,7 +84,9 @@ static void save_input(const char *why) {
 
 static void report(const char *what) {
     if (wrong++ < 20) {
-        fprintf(stderr, "wrong: %s %u %u %u: %s\n", current->name, current_rows[0], current_rows[1], current_rows[2], what);
+        const uint32_t *n = current.numbers;
+        fprintf(stderr, "wrong: %s %u %u %u %u, options %#x, %zu bytes: %s\n", current.name, n[0], n[1], n[2], n[3], input.options,
+                current.room, what);
         save_input("wrong");
     }
 }
@@ -111,11 +116,11 @@ static void catch_signals(void) {
 
 /* ---- asking */
 
-static dn_reply ask(int call, const uint32_t *rows, struct buffer buffer) {
-    current = &calls[call];
-    memcpy(current_rows, rows, sizeof current_rows);
-    asked++, ticks = 0, armed = 1;
-    dn_reply reply = current->ask(&input, rows, buffer);
+static void begin(struct current next) { current = next, asked++, ticks = 0, armed = 1; }
+
+static dn_reply ask(int call, const uint32_t *r, struct buffer buffer) {
+    begin((struct current){ calls[call].name, { r[0], r[1], r[2], 0 }, buffer.length });
+    dn_reply reply = calls[call].ask(&input, r, buffer);
     armed = 0;
     return reply;
 }
@@ -138,18 +143,36 @@ static int is_zero(const uint8_t *at, size_t length) {
     return length == 0 || (at[0] == 0 && !memcmp(at, at + 1, length - 1));
 }
 
-/* Asks for a name, and looks at the whole buffer and at what stands before it. */
+/* Looks at what a call wrote: nothing before the buffer, and zeros behind what it used. */
+static void look_at(struct buffer buffer, size_t used) {
+    for (int i = 1; i <= CANARY; i++)
+        if (buffer.at[-i] != 0x5C) { report("bytes before the buffer are written"); break; }
+    if (used > buffer.length) report("a length that cannot be");
+    else if (!is_zero(buffer.at + used, buffer.length - used)) report("bytes that are not zero behind what is written");
+}
+
 static dn_reply ask_name(int call, const uint32_t *rows, size_t length, int fill) {
     struct buffer buffer = buffer_of(length, fill);
     dn_reply reply = ask(call, rows, buffer);
-    for (int i = 1; i <= CANARY; i++)
-        if (buffer.at[-i] != 0x5C) { report("bytes before the buffer are written"); break; }
-    if (reply.refusal ? reply.value : reply.value > length) report("a length that cannot be");
-    else if (!is_zero(buffer.at + reply.value, length - reply.value)) report("bytes that are not zero after the name");
+    look_at(buffer, reply.value);
+    if (reply.refusal && reply.value) report("a length beside a refusal");
     return reply;
 }
 
 static int same(dn_reply a, dn_reply b) { return a.refusal == b.refusal && a.value == b.value; }
+
+static uint8_t seen[ROOM]; /* what a buffer had after a call */
+
+/* A question must have that reply, and leave the bytes that were seen. */
+static void check_question(uint32_t question, int is_name, const uint32_t *r, size_t length, dn_reply expected) {
+    struct buffer buffer = buffer_of(length, 0x55);
+    begin((struct current){ is_name ? "ask_name" : "ask_number", { question, r[0], r[1], r[2] }, length });
+    dn_reply reply = ask_question(&input, question, is_name, r, buffer);
+    armed = 0;
+    look_at(buffer, is_name ? reply.value : 0);
+    if (!same(reply, expected)) report("another reply by the question");
+    else if (memcmp(buffer.at, seen, length)) report("other bytes by the question");
+}
 
 /* ---- seeds */
 
@@ -208,6 +231,8 @@ static void check_lengths(int call, const uint32_t *rows) {
             if (!same(reply, expected)) report("another reply for another length or filling");
             else if (!reply.refusal && memcmp(lent.end - length, name, n)) report("another name for another length or filling");
         }
+        memcpy(seen, lent.end - length, length);
+        check_question(calls[call].question, 1, rows, length, expected);
     }
 }
 
@@ -335,34 +360,137 @@ static int some_rows(int call, int out, uint32_t *rows) {
     return inside;
 }
 
+/* A number near a count, or any. */
+static uint32_t number_near(uint64_t n) { return below(8) ? (uint32_t)below(n + 2) : below(2) ? 0xFFFFFFFF : (uint32_t)chance(); }
+
+static uint32_t some_options(void) { return (const uint32_t[]){ (uint32_t)chance(), 0xFFFFFFFF, 1u << below(32) }[below(3)]; }
+
+static size_t some_length(void) { return (const size_t[]){ below(3), below(24), below(24), below(200), 4096 }[below(5)]; }
+
+/* The call's question, with numbers by chance where it has none. */
+static void check_with_junk(int call, const uint32_t *rows, size_t length, dn_reply expected) {
+    uint32_t r[3];
+    for (int i = 0; i < 3; i++) r[i] = i < calls[call].rows ? rows[i] : number_near(2);
+    check_question(calls[call].question, calls[call].is_name, r, length, expected);
+}
+
 static void check_call(int call, size_t refusal, int out) {
     uint32_t rows[3];
     int inside = some_rows(call, out, rows);
+    size_t length = calls[call].is_name ? some_length() : 0;
     dn_reply reply, again;
     if (calls[call].is_name) {
-        static uint8_t before[ROOM];
-        size_t length = (const size_t[]){ below(3), below(24), below(24), below(200), 4096 }[below(5)];
         reply = ask_name(call, rows, length, (int)below(256));
-        memcpy(before, lent.end - length, length);
+        memcpy(seen, lent.end - length, length);
+        input.options = some_options();
         again = ask_name(call, rows, length, (int)below(256));
-        if (memcmp(before, lent.end - length, length)) report("other bytes for another filling");
+        if (memcmp(seen, lent.end - length, length)) report("other bytes for another filling or other options");
     } else {
         reply = ask(call, rows, no_buffer);
+        input.options = some_options();
         again = ask(call, rows, no_buffer);
     }
     if (!same(reply, again)) report("another reply the second time");
     int may_fail = calls[call].is_name && (reply.refusal == DN_NO_NAME || reply.refusal == DN_BUFFER_TOO_SMALL);
     if (refusal ? reply.refusal != refusal : inside ? reply.refusal && !may_fail : reply.refusal != DN_NO_SUCH_ROW)
         report("a refusal that does not belong there, or none where one does");
+    if (calls[call].question) check_with_junk(call, rows, length, reply);
+    input.options = 0;
 }
+
+/* The call of a question for a number or for a name; CALLS where there is none. */
+static int call_of(uint32_t question, int is_name) {
+    int call = 0;
+    while (call < CALLS && !(calls[call].question && calls[call].question == question && calls[call].is_name == is_name)) call++;
+    return call;
+}
+
+/* Any question, which need not be one of that call or of any. */
+static void check_any_question(size_t refusal) {
+    uint32_t question = (const uint32_t[]){ (uint32_t)below(12), 95 + (uint32_t)below(16), (uint32_t)chance(),
+                                            calls[below(CALLS)].question + (256u << below(24)) }[below(4)];
+    uint32_t rows[3] = { number_near(2), number_near(2), number_near(2) };
+    int is_name = (int)below(2), call = call_of(question, is_name);
+    size_t length = is_name ? some_length() : 0;
+    dn_reply expected = { 0, refusal ? refusal : DN_NO_SUCH_ROW };
+    memset(seen, 0, length);
+    if (call < CALLS) {
+        expected = ask(call, rows, buffer_of(length, 0xAA));
+        memcpy(seen, lent.end - length, length);
+    }
+    input.options = some_options();
+    check_question(question, is_name, rows, length, expected);
+    input.options = 0;
+}
+
+/* ---- the listing */
+
+static int same_cursor(dn_cursor a, dn_cursor b) {
+    return a.place == b.place && a.class_number == b.class_number && a.method == b.method && a.item == b.item;
+}
+
+static int same_piece(dn_piece a, dn_piece b) { return a.used == b.used && a.done == b.done && same_cursor(a.next, b.next); }
+
+static dn_piece list(dn_cursor from, size_t length, int fill) {
+    struct buffer buffer = buffer_of(length, fill);
+    begin((struct current){ "listing", { from.place, from.class_number, from.method, from.item }, length });
+    dn_piece piece = list_piece(&input, from, buffer);
+    armed = 0;
+    look_at(buffer, piece.used);
+    if (piece.used && piece.used <= length && buffer.at[piece.used - 1] != '\n') report("a piece that no line ends");
+    if (piece.done > 1) report("neither done nor not done");
+    return piece;
+}
+
+/* The line at a cursor is longer than what was left of a buffer, and one that is a byte shorter gets nothing. */
+static void check_line(dn_cursor at, size_t left) {
+    dn_piece line = { 0, 0, at };
+    size_t n = 0, most = list(at, DN_LONGEST_LINE, 0xAA).used;
+    memcpy(seen, lent.end - DN_LONGEST_LINE, most);
+    while (n < most && !line.used) { /* a name may have line ends in it */
+        while (n < most && seen[n++] != '\n') {}
+        line = list(at, n, 0xAA);
+    }
+    if (!line.used) {
+        report("no line where a piece ends");
+        return;
+    }
+    if (line.used != n || memcmp(lent.end - n, seen, n)) report("another line alone");
+    if (n <= left) report("a line that is left out");
+    if (!same_piece(list(at, n - 1, 0xAA), (dn_piece){ 0, 0, at })) report("something for a line that has no room");
+}
+
+static dn_cursor some_cursor(void) {
+    uint32_t rows[3] = { 0, 0, 0 };
+    rows[0] = number_near(count(CLASS_COUNT, rows));
+    rows[1] = number_near(count(METHOD_COUNT, rows));
+    rows[2] = number_near(count(PARAM_COUNT, rows));
+    return (dn_cursor){ below(8) ? (uint32_t)below(PLACES) : number_near(PLACES + 2), rows[0], rows[1], rows[2] };
+}
+
+static void check_listing(void) {
+    dn_cursor from = some_cursor();
+    size_t length = (const size_t[]){ below(64), below(5001), DN_LONGEST_LINE }[below(3)];
+    dn_piece piece = list(from, length, (int)below(256));
+    memcpy(seen, lent.end - length, length);
+    input.options = some_options();
+    dn_piece again = list(from, length, (int)below(256));
+    if (!same_piece(piece, again) || memcmp(lent.end - length, seen, length)) report("another piece the second time");
+    if (from.place >= PLACES && (piece.used || !piece.done)) report("a place that there is not");
+    if (!piece.done) check_line(piece.next, length - piece.used);
+    input.options = 0;
+}
+
+/* ---- all of them */
 
 /* The tables adjoin, and none reaches past the stream's end. */
 static void check_walk(size_t refusal) {
+    input.options = some_options();
     dn_reply stop = ask(WALK_STOP, (const uint32_t[3]){ 0, 0, 0 }, no_buffer);
     size_t end = 0;
     if (stop.refusal != refusal || (refusal ? stop.value : stop.value > 64)) report("a walk with another reply");
     for (uint32_t kind = 0; kind < 64; kind++) {
-        dn_extent table = dn_walk_extent(input.tables.at, input.tables.length, kind);
+        dn_extent table = dn_walk_extent(input.tables.at, input.tables.length, input.options, kind);
         asked++;
         if (!table.size) {
             if (table.start || table.rows) report("a table without rows that has a place");
@@ -372,6 +500,7 @@ static void check_walk(size_t refusal) {
         end = table.start + table.size * table.rows;
         if (end > input.tables.length || kind > stop.value) report("a table past the end");
     }
+    input.options = 0;
 }
 
 static void run_inputs(unsigned long times) {
@@ -385,6 +514,8 @@ static void run_inputs(unsigned long times) {
         for (int call = 0; call < CALLS; call++)
             for (int out = -1; out < calls[call].rows; out++)
                 check_call(call, opened.refusal, out);
+        check_any_question(opened.refusal);
+        check_listing();
         if (!are_unchanged()) report("a stream is changed");
     }
 }

@@ -99,7 +99,7 @@ static int open_input(const uint8_t *data, size_t n, struct input *in) {
     size_t t, s, b;
     if (n > MOST || !(at = number_line(at, end, "tables=", &t)) || !(at = number_line(at, end, "strings=", &s))) return 0;
     if (!(at = number_line(at, end, "blob=", &b)) || (size_t)(end - at) != t + s + b) return 0;
-    *in = (struct input){ { at, t }, { at + t, s }, { at + t + s, b } };
+    *in = (struct input){ { at, t }, { at + t, s }, { at + t + s, b }, 0 };
     return 1;
 }
 

@@ -25,7 +25,7 @@ pub fn ask_number(
     let layout = opened.layout;
     match answer {
         Opened::Refused(why) => Reply::No(why),
-        Opened::Ready => questions::answer_number(tables, strings, blob, &layout, question),
+        Opened::Ready => answers::answer_number(tables, strings, blob, &layout, question),
     }
 }
 
@@ -46,6 +46,6 @@ pub fn ask_name(
     let layout = opened.layout;
     match answer {
         Opened::Refused(why) => buffers::refuse(buf, why),
-        Opened::Ready => { questions::answer_name(buf, tables, strings, blob, &layout, question) }
+        Opened::Ready => { answers::answer_name(buf, tables, strings, blob, &layout, question) }
     }
 }

@@ -1,10 +1,9 @@
 // The calls for the base types of a class (ECMA-335 II.22.37, II.22.23): how many it has, and their names.
 use buffers::Reply;
-use class_answers::count_bases_of;
-use class_answers::write_base_name;
 use classes::ClassNumber;
-use header::Opened;
 use header::Options;
+use questions::NameQuestion;
+use questions::NumberQuestion;
 ghost use Rattle.buffers.specs.Replies.{Named};
 ghost use Rattle.record.specs.View.{view};
 ghost use Rattle.record.specs.Answers.{Numbered, baseCount, baseName};
@@ -19,13 +18,8 @@ pub fn base_count(
 ) -> Reply
     ensures { λ r. ⌜ Numbered (baseCount (view options (now (tables .entry)) (now (strings .entry)) (now (blob .entry))) (class .0)) r ⌝ }
 {
-    let opened = opening::open(tables, options);
-    let answer = opened.answer;
-    let layout = opened.layout;
-    match answer {
-        Opened::Refused(why) => Reply::No(why),
-        Opened::Ready => count_bases_of(tables, strings, blob, &layout, class),
-    }
+    let count = NumberQuestion::BaseCount(class);
+    asks::ask_number(tables, strings, blob, options, count)
 }
 
 // The name of base type b of a class.
@@ -41,11 +35,6 @@ pub fn base_name(
     ensures { λ r. let v = view options (now (tables .entry)) (now (strings .entry)) (now (blob .entry)) in
         ⌜ Named (baseName v (class .0) b) (now (buf .entry)) r (now (buf .exit)) ⌝ }
 {
-    let opened = opening::open(tables, options);
-    let answer = opened.answer;
-    let layout = opened.layout;
-    match answer {
-        Opened::Refused(why) => buffers::refuse(buf, why),
-        Opened::Ready => write_base_name(buf, tables, strings, blob, &layout, class, b),
-    }
+    let name = NameQuestion::BaseName(class, b);
+    asks::ask_name(tables, strings, blob, options, name, buf)
 }

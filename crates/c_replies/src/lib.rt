@@ -7,7 +7,7 @@ use tables::Extents;
 ghost use mathlib.Core.Path.{_≡_};
 ghost use Rattle.buffers.specs.Replies.{replySays};
 ghost use Rattle.tables.specs.Extents.{walkSays};
-ghost use Rattle.c_replies.specs.Told.{told, noPart, toldPart, toldExtent};
+ghost use Rattle.c_replies.specs.Told.{theVersion, told, noPart, toldPart, toldExtent};
 
 // The number asked for, which for a name is its length; or why there is none.
 #[repr(C)]
@@ -30,6 +30,15 @@ pub struct DnExtent {
     pub start: usize,
     pub size: usize,
     pub rows: usize,
+}
+
+// The version of the interface, DN_VERSION in the header.
+const VERSION: u32 = 1;
+
+pub fn version() -> u32
+    ensures { λ r. ⌜ r ≡ theVersion ⌝ }
+{
+    VERSION
 }
 
 pub fn reply_of(reply: Reply) -> DnReply

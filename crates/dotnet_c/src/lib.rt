@@ -1,31 +1,45 @@
-// The library for C: each public call of `dotnet` on a stream that is opened with the base's options, as include/dotnet_tables.h
-// declares it. The numbers of classes, methods, generics, base types and parameters are plain, and every answer is a struct of numbers.
+// The library for C: each public call of `dotnet`, any call by the number of its question, and the listing by pieces, as
+// include/dotnet_tables.h declares them. The options are a set of bits, the numbers of classes, methods, generics, base types and
+// parameters are plain, and every answer is a struct of numbers.
+use c_listing::DnCursor;
+use c_listing::DnPiece;
+use c_questions::options_of;
 use c_replies::DnExtent;
 use c_replies::DnPart;
 use c_replies::DnReply;
 use classes::ClassNumber;
-use header::base_options;
 ghost use mathlib.Core.Path.{_≡_};
-ghost use Rattle.header.specs.Stream.{base};
 ghost use Rattle.tables.specs.Extents.{walkOf};
 ghost use Rattle.record.specs.View.{view};
 ghost use Rattle.record.specs.Answers.{classCount, classFlags, className, genericCount, genericName, baseCount, baseName, methodCount, methodFlags, methodName, methodGenericCount, methodGenericName, returnType, parameterCount, parameterType, parameterName};
-ghost use Rattle.c_replies.specs.Told.{told, ToldName, toldLookup, toldExtent};
+ghost use lib.ListN.{length};
+ghost use Rattle.listing_text.specs.Filling.{pieceOf};
+ghost use Rattle.c_replies.specs.Told.{theVersion, told, ToldName, toldLookup, toldExtent};
+ghost use Rattle.c_questions.specs.Asked.{optionsOf, numberAsked, nameAsked, askedNumber, askedName};
+ghost use Rattle.c_listing.specs.Told.{cursorOf, ToldPiece};
+
+// The version of this interface.
+#[no_mangle]
+pub extern "C" fn dn_version() -> u32
+    ensures { λ r. ⌜ r ≡ theVersion ⌝ }
+{
+    c_replies::version()
+}
 
 // The kind at which the walk is left, 64 if there is none.
 #[no_mangle]
-pub extern "C" fn dn_walk_stop(tables: &[u8]) -> DnReply
-    ensures { λ r. ⌜ r ≡ told (walkOf base (now (tables .entry)) .stop) ⌝ }
+pub extern "C" fn dn_walk_stop(tables: &[u8], options: u32) -> DnReply
+    ensures { λ r. ⌜ r ≡ told (walkOf (optionsOf options) (now (tables .entry)) .stop) ⌝ }
 {
-    c_replies::stop_of(dotnet::walk(tables))
+    c_replies::stop_of(dotnet::walk_with(tables, options_of(options)))
 }
 
 // Where the table of a kind begins, its row size and its whole rows.
 #[no_mangle]
-pub extern "C" fn dn_walk_extent(tables: &[u8], kind: u32) -> DnExtent
-    ensures { λ r. ⌜ r ≡ toldExtent (walkOf base (now (tables .entry))) kind ⌝ }
+pub extern "C" fn dn_walk_extent(tables: &[u8], options: u32, kind: u32) -> DnExtent
+    ensures { λ r. ⌜ r ≡ toldExtent (walkOf (optionsOf options) (now (tables .entry))) kind ⌝ }
 {
-    c_replies::extent_of(dotnet::walk(tables), kind)
+    c_replies::extent_of(dotnet::walk_with(tables, options_of(options)), kind)
 }
 
 // The raw lookup, in the strings heap for 0 and the blob heap for 1: the place of the part that `dotnet::lookup` hands back.
@@ -44,22 +58,35 @@ pub extern "C" fn dn_lookup(strings: &[u8], blobs: &[u8], which: u32, index: u32
 
 // How many classes there are.
 #[no_mangle]
-pub extern "C" fn dn_class_count(tables: &[u8], strings: &[u8], blob: &[u8]) -> DnReply
-    ensures { λ r. ⌜ r ≡ told (classCount (view base (now (tables .entry)) (now (strings .entry)) (now (blob .entry)))) ⌝ }
+pub extern "C" fn dn_class_count(
+    tables: &[u8],
+    strings: &[u8],
+    blob: &[u8],
+    options: u32,
+) -> DnReply
+    ensures { λ r. let v = view (optionsOf options) (now (tables .entry)) (now (strings .entry)) (now (blob .entry)) in
+        ⌜ r ≡ told (classCount v) ⌝ }
 {
-    c_replies::reply_of(dotnet::class_count(tables, strings, blob, base_options()))
+    c_replies::reply_of(dotnet::class_count(tables, strings, blob, options_of(options)))
 }
 
 // The flags of a class (II.23.1.15).
 #[no_mangle]
-pub extern "C" fn dn_class_flags(tables: &[u8], strings: &[u8], blob: &[u8], class: u32) -> DnReply
-    ensures { λ r. ⌜ r ≡ told (classFlags (view base (now (tables .entry)) (now (strings .entry)) (now (blob .entry))) class) ⌝ }
+pub extern "C" fn dn_class_flags(
+    tables: &[u8],
+    strings: &[u8],
+    blob: &[u8],
+    options: u32,
+    class: u32,
+) -> DnReply
+    ensures { λ r. let v = view (optionsOf options) (now (tables .entry)) (now (strings .entry)) (now (blob .entry)) in
+        ⌜ r ≡ told (classFlags v class) ⌝ }
 {
     c_replies::reply_of(dotnet::class_flags(
         tables,
         strings,
         blob,
-        base_options(),
+        options_of(options),
         ClassNumber(class),
     ))
 }
@@ -70,17 +97,18 @@ pub extern "C" fn dn_class_name(
     tables: &[u8],
     strings: &[u8],
     blob: &[u8],
+    options: u32,
     class: u32,
     buf: &mut [u8],
 ) -> DnReply
-    ensures { λ r. let v = view base (now (tables .entry)) (now (strings .entry)) (now (blob .entry)) in
+    ensures { λ r. let v = view (optionsOf options) (now (tables .entry)) (now (strings .entry)) (now (blob .entry)) in
         ⌜ ToldName (className v class) (now (buf .entry)) r (now (buf .exit)) ⌝ }
 {
     c_replies::reply_of(dotnet::class_name(
         tables,
         strings,
         blob,
-        base_options(),
+        options_of(options),
         ClassNumber(class),
         buf,
     ))
@@ -92,15 +120,17 @@ pub extern "C" fn dn_generic_count(
     tables: &[u8],
     strings: &[u8],
     blob: &[u8],
+    options: u32,
     class: u32,
 ) -> DnReply
-    ensures { λ r. ⌜ r ≡ told (genericCount (view base (now (tables .entry)) (now (strings .entry)) (now (blob .entry))) class) ⌝ }
+    ensures { λ r. let v = view (optionsOf options) (now (tables .entry)) (now (strings .entry)) (now (blob .entry)) in
+        ⌜ r ≡ told (genericCount v class) ⌝ }
 {
     c_replies::reply_of(dotnet::generic_count(
         tables,
         strings,
         blob,
-        base_options(),
+        options_of(options),
         ClassNumber(class),
     ))
 }
@@ -111,18 +141,19 @@ pub extern "C" fn dn_generic_name(
     tables: &[u8],
     strings: &[u8],
     blob: &[u8],
+    options: u32,
     class: u32,
     g: u32,
     buf: &mut [u8],
 ) -> DnReply
-    ensures { λ r. let v = view base (now (tables .entry)) (now (strings .entry)) (now (blob .entry)) in
+    ensures { λ r. let v = view (optionsOf options) (now (tables .entry)) (now (strings .entry)) (now (blob .entry)) in
         ⌜ ToldName (genericName v class g) (now (buf .entry)) r (now (buf .exit)) ⌝ }
 {
     c_replies::reply_of(dotnet::generic_name(
         tables,
         strings,
         blob,
-        base_options(),
+        options_of(options),
         ClassNumber(class),
         g,
         buf,
@@ -131,14 +162,21 @@ pub extern "C" fn dn_generic_name(
 
 // How many base types a class has.
 #[no_mangle]
-pub extern "C" fn dn_base_count(tables: &[u8], strings: &[u8], blob: &[u8], class: u32) -> DnReply
-    ensures { λ r. ⌜ r ≡ told (baseCount (view base (now (tables .entry)) (now (strings .entry)) (now (blob .entry))) class) ⌝ }
+pub extern "C" fn dn_base_count(
+    tables: &[u8],
+    strings: &[u8],
+    blob: &[u8],
+    options: u32,
+    class: u32,
+) -> DnReply
+    ensures { λ r. let v = view (optionsOf options) (now (tables .entry)) (now (strings .entry)) (now (blob .entry)) in
+        ⌜ r ≡ told (baseCount v class) ⌝ }
 {
     c_replies::reply_of(dotnet::base_count(
         tables,
         strings,
         blob,
-        base_options(),
+        options_of(options),
         ClassNumber(class),
     ))
 }
@@ -149,18 +187,19 @@ pub extern "C" fn dn_base_name(
     tables: &[u8],
     strings: &[u8],
     blob: &[u8],
+    options: u32,
     class: u32,
     b: u32,
     buf: &mut [u8],
 ) -> DnReply
-    ensures { λ r. let v = view base (now (tables .entry)) (now (strings .entry)) (now (blob .entry)) in
+    ensures { λ r. let v = view (optionsOf options) (now (tables .entry)) (now (strings .entry)) (now (blob .entry)) in
         ⌜ ToldName (baseName v class b) (now (buf .entry)) r (now (buf .exit)) ⌝ }
 {
     c_replies::reply_of(dotnet::base_name(
         tables,
         strings,
         blob,
-        base_options(),
+        options_of(options),
         ClassNumber(class),
         b,
         buf,
@@ -169,14 +208,21 @@ pub extern "C" fn dn_base_name(
 
 // How many methods a class has.
 #[no_mangle]
-pub extern "C" fn dn_method_count(tables: &[u8], strings: &[u8], blob: &[u8], class: u32) -> DnReply
-    ensures { λ r. ⌜ r ≡ told (methodCount (view base (now (tables .entry)) (now (strings .entry)) (now (blob .entry))) class) ⌝ }
+pub extern "C" fn dn_method_count(
+    tables: &[u8],
+    strings: &[u8],
+    blob: &[u8],
+    options: u32,
+    class: u32,
+) -> DnReply
+    ensures { λ r. let v = view (optionsOf options) (now (tables .entry)) (now (strings .entry)) (now (blob .entry)) in
+        ⌜ r ≡ told (methodCount v class) ⌝ }
 {
     c_replies::reply_of(dotnet::method_count(
         tables,
         strings,
         blob,
-        base_options(),
+        options_of(options),
         ClassNumber(class),
     ))
 }
@@ -187,16 +233,18 @@ pub extern "C" fn dn_method_flags(
     tables: &[u8],
     strings: &[u8],
     blob: &[u8],
+    options: u32,
     class: u32,
     m: u32,
 ) -> DnReply
-    ensures { λ r. ⌜ r ≡ told (methodFlags (view base (now (tables .entry)) (now (strings .entry)) (now (blob .entry))) class m) ⌝ }
+    ensures { λ r. let v = view (optionsOf options) (now (tables .entry)) (now (strings .entry)) (now (blob .entry)) in
+        ⌜ r ≡ told (methodFlags v class m) ⌝ }
 {
     c_replies::reply_of(dotnet::method_flags(
         tables,
         strings,
         blob,
-        base_options(),
+        options_of(options),
         ClassNumber(class),
         m,
     ))
@@ -208,18 +256,19 @@ pub extern "C" fn dn_method_name(
     tables: &[u8],
     strings: &[u8],
     blob: &[u8],
+    options: u32,
     class: u32,
     m: u32,
     buf: &mut [u8],
 ) -> DnReply
-    ensures { λ r. let v = view base (now (tables .entry)) (now (strings .entry)) (now (blob .entry)) in
+    ensures { λ r. let v = view (optionsOf options) (now (tables .entry)) (now (strings .entry)) (now (blob .entry)) in
         ⌜ ToldName (methodName v class m) (now (buf .entry)) r (now (buf .exit)) ⌝ }
 {
     c_replies::reply_of(dotnet::method_name(
         tables,
         strings,
         blob,
-        base_options(),
+        options_of(options),
         ClassNumber(class),
         m,
         buf,
@@ -232,16 +281,18 @@ pub extern "C" fn dn_method_generic_count(
     tables: &[u8],
     strings: &[u8],
     blob: &[u8],
+    options: u32,
     class: u32,
     m: u32,
 ) -> DnReply
-    ensures { λ r. ⌜ r ≡ told (methodGenericCount (view base (now (tables .entry)) (now (strings .entry)) (now (blob .entry))) class m) ⌝ }
+    ensures { λ r. let v = view (optionsOf options) (now (tables .entry)) (now (strings .entry)) (now (blob .entry)) in
+        ⌜ r ≡ told (methodGenericCount v class m) ⌝ }
 {
     c_replies::reply_of(dotnet::method_generic_count(
         tables,
         strings,
         blob,
-        base_options(),
+        options_of(options),
         ClassNumber(class),
         m,
     ))
@@ -253,19 +304,20 @@ pub extern "C" fn dn_method_generic_name(
     tables: &[u8],
     strings: &[u8],
     blob: &[u8],
+    options: u32,
     class: u32,
     m: u32,
     g: u32,
     buf: &mut [u8],
 ) -> DnReply
-    ensures { λ r. let v = view base (now (tables .entry)) (now (strings .entry)) (now (blob .entry)) in
+    ensures { λ r. let v = view (optionsOf options) (now (tables .entry)) (now (strings .entry)) (now (blob .entry)) in
         ⌜ ToldName (methodGenericName v class m g) (now (buf .entry)) r (now (buf .exit)) ⌝ }
 {
     c_replies::reply_of(dotnet::method_generic_name(
         tables,
         strings,
         blob,
-        base_options(),
+        options_of(options),
         ClassNumber(class),
         m,
         g,
@@ -279,18 +331,19 @@ pub extern "C" fn dn_return_type(
     tables: &[u8],
     strings: &[u8],
     blob: &[u8],
+    options: u32,
     class: u32,
     m: u32,
     buf: &mut [u8],
 ) -> DnReply
-    ensures { λ r. let v = view base (now (tables .entry)) (now (strings .entry)) (now (blob .entry)) in
+    ensures { λ r. let v = view (optionsOf options) (now (tables .entry)) (now (strings .entry)) (now (blob .entry)) in
         ⌜ ToldName (returnType v class m) (now (buf .entry)) r (now (buf .exit)) ⌝ }
 {
     c_replies::reply_of(dotnet::return_type(
         tables,
         strings,
         blob,
-        base_options(),
+        options_of(options),
         ClassNumber(class),
         m,
         buf,
@@ -303,16 +356,18 @@ pub extern "C" fn dn_param_count(
     tables: &[u8],
     strings: &[u8],
     blob: &[u8],
+    options: u32,
     class: u32,
     m: u32,
 ) -> DnReply
-    ensures { λ r. ⌜ r ≡ told (parameterCount (view base (now (tables .entry)) (now (strings .entry)) (now (blob .entry))) class m) ⌝ }
+    ensures { λ r. let v = view (optionsOf options) (now (tables .entry)) (now (strings .entry)) (now (blob .entry)) in
+        ⌜ r ≡ told (parameterCount v class m) ⌝ }
 {
     c_replies::reply_of(dotnet::param_count(
         tables,
         strings,
         blob,
-        base_options(),
+        options_of(options),
         ClassNumber(class),
         m,
     ))
@@ -324,19 +379,20 @@ pub extern "C" fn dn_param_type(
     tables: &[u8],
     strings: &[u8],
     blob: &[u8],
+    options: u32,
     class: u32,
     m: u32,
     p: u32,
     buf: &mut [u8],
 ) -> DnReply
-    ensures { λ r. let v = view base (now (tables .entry)) (now (strings .entry)) (now (blob .entry)) in
+    ensures { λ r. let v = view (optionsOf options) (now (tables .entry)) (now (strings .entry)) (now (blob .entry)) in
         ⌜ ToldName (parameterType v class m p) (now (buf .entry)) r (now (buf .exit)) ⌝ }
 {
     c_replies::reply_of(dotnet::param_type(
         tables,
         strings,
         blob,
-        base_options(),
+        options_of(options),
         ClassNumber(class),
         m,
         p,
@@ -350,22 +406,76 @@ pub extern "C" fn dn_param_name(
     tables: &[u8],
     strings: &[u8],
     blob: &[u8],
+    options: u32,
     class: u32,
     m: u32,
     p: u32,
     buf: &mut [u8],
 ) -> DnReply
-    ensures { λ r. let v = view base (now (tables .entry)) (now (strings .entry)) (now (blob .entry)) in
+    ensures { λ r. let v = view (optionsOf options) (now (tables .entry)) (now (strings .entry)) (now (blob .entry)) in
         ⌜ ToldName (parameterName v class m p) (now (buf .entry)) r (now (buf .exit)) ⌝ }
 {
     c_replies::reply_of(dotnet::param_name(
         tables,
         strings,
         blob,
-        base_options(),
+        options_of(options),
         ClassNumber(class),
         m,
         p,
         buf,
     ))
+}
+
+// Any call for a number, by the number of its question.
+#[no_mangle]
+pub extern "C" fn dn_ask_number(
+    tables: &[u8],
+    strings: &[u8],
+    blob: &[u8],
+    options: u32,
+    question: u32,
+    a: u32,
+    b: u32,
+    c: u32,
+) -> DnReply
+    ensures { λ r. let v = view (optionsOf options) (now (tables .entry)) (now (strings .entry)) (now (blob .entry)) in
+        ⌜ r ≡ told (askedNumber (numberAsked question a b) v) ⌝ }
+{
+    c_asks::ask_number(tables, strings, blob, options, question, a, b, c)
+}
+
+// Any call for a name, by the number of its question.
+#[no_mangle]
+pub extern "C" fn dn_ask_name(
+    tables: &[u8],
+    strings: &[u8],
+    blob: &[u8],
+    options: u32,
+    question: u32,
+    a: u32,
+    b: u32,
+    c: u32,
+    buf: &mut [u8],
+) -> DnReply
+    ensures { λ r. let v = view (optionsOf options) (now (tables .entry)) (now (strings .entry)) (now (blob .entry)) in
+        ⌜ ToldName (askedName (nameAsked question a b c) v) (now (buf .entry)) r (now (buf .exit)) ⌝ }
+{
+    c_asks::ask_name(tables, strings, blob, options, question, a, b, c, buf)
+}
+
+// A piece of the listing: as many whole lines from a cursor on as the buffer holds.
+#[no_mangle]
+pub extern "C" fn dn_listing(
+    tables: &[u8],
+    strings: &[u8],
+    blob: &[u8],
+    options: u32,
+    from: DnCursor,
+    buf: &mut [u8],
+) -> DnPiece
+    ensures { λ r. let v = view (optionsOf options) (now (tables .entry)) (now (strings .entry)) (now (blob .entry)) in
+        ⌜ ToldPiece (pieceOf v (length (now (buf .entry))) (cursorOf from)) (now (buf .entry)) r (now (buf .exit)) ⌝ }
+{
+    c_listing::listing(tables, strings, blob, options, from, buf)
 }

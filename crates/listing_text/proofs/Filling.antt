@@ -7,6 +7,7 @@ use native.Mathlib.Nat.{zero-add}
 use native.Mathlib.Omega.{arith}
 use borrow.Author.Tests.{le-leb, lt-leb}
 use lib.ListN.{length, length-append}
+use Rattle.numbers.proofs.Pick.{pick, pick-le}
 use Rattle.numbers.specs.Parts.{part}
 use Rattle.buffers.specs.Texts.{Text}
 use Rattle.buffers.specs.Writes.{Wrote}
@@ -26,7 +27,7 @@ use Rattle.lines.specs.Cursors.{cursor, done, lineAt, nextAt, Went, Stepped}
 use Rattle.lines.specs.declared.Place.{Place}
 use Rattle.lines.specs.declared.Cursor.{Cursor}
 use Rattle.lines.specs.declared.Step.{Step}
-use Rattle.listing_text.specs.Filling.{isDone, Piece, pieceFrom, pieceOf, inputPiece, Pieced, Filled}
+use Rattle.listing_text.specs.Filling.{isDone, Piece, pieceFrom, mostSteps, pieceOf, inputPiece, Pieced, Filled}
 
 -- A cursor's step is known by its place.
 pub at-place : (v : View) (c : Cursor) {p : Place} {o o′ : List ℕ} {at : ℕ} {s : Step}
@@ -120,6 +121,19 @@ piece-ended {p} {b} w n = record {
   buffer = named-text (w .wrote) n .buffer;
   goes = w .goes;
 }
+
+-- A piece fits its room.
+module _ (v : View) (room : ℕ) where
+  from-fits : (n : ℕ) (t : Text) (c : Cursor) → length t ≤ room → length (pieceFrom v room n t c .text) ≤ room
+  unfolding pieceFrom
+  from-fits zero t c h = h
+  from-fits (suc n) t c h =
+      pick (λ (p : Piece). length (p .text) ≤ room) (isDone (c .place)) (λ _. h)
+      (λ _. pick-le (λ (p : Piece). length (p .text) ≤ room) (length (t ++ lineAt v c)) room
+      (λ fits. from-fits n (t ++ lineAt v c) (nextAt v c) fits) (λ _. h))
+
+  pub piece-fits : (c : Cursor) → length (pieceOf v room c .text) ≤ room
+  piece-fits c = from-fits mostSteps [] c (omega arith)
 
 -- A program's whole input.
 module _ (s : List ℕ) (room : ℕ) (from : Cursor) {b b′ : List ℕ} {r : Step} where

@@ -8,7 +8,7 @@ use Prim.Native.Nat.{ℕ, zero, suc, _*_, _-_, _<_, _≤_}
 use native.Mathlib.Omega.{arith}
 use lib.Dec.{leb}
 use lib.ListN.{length}
-use Rattle.numbers.proofs.Pick.{pick, pick-le, by-lt}
+use Rattle.numbers.proofs.Pick.{pick, by-lt}
 use Rattle.buffers.specs.Texts.{Text}
 use Rattle.buffers.specs.Replies.{Answer, refused, value, number}
 use Rattle.buffers.specs.declared.Refusal.the-variants.{BadInput}
@@ -25,8 +25,8 @@ use Rattle.lines.specs.declared.Place.{Place}
 use Rattle.lines.specs.declared.Place.the-variants.{Stop, Classes, Class, Flags, Generic, Base, Method, MethodFlags, MethodGeneric, Returns, ParamType, ParamName, Done}
 use Rattle.lines.specs.declared.Cursor.{Cursor}
 use Rattle.listing_text.specs.Filling.{isDone, Piece, pieceFrom, pieceOf, mostSteps, answerPiece, inputPiece}
-use Rattle.listing_text.proofs.Filling.{is-done, is-full, goes-on}
-use Rattle.listing_whole.specs.Whole.{Whole, written, PiecesFit, Begun, WrittenBegins, Bytes, longestLine, mostPieces, Ended, WrittenWhole, Stays, LongLineStays, WrittenStays}
+use Rattle.listing_text.proofs.Filling.{is-done, is-full, goes-on, piece-fits}
+use Rattle.listing_whole.specs.Whole.{Whole, written, PiecesFit, Begun, WrittenBegins, Bytes, longestLine, mostPieces, Ended, WrittenWhole, PiecesWhole, Stays, LongLineStays, WrittenStays}
 use Rattle.listing_whole.proofs.Whole.{Within, stay, go, the-steps, fewer, then, FewIn, listingSteps, listed}
 use Rattle.listing_whole.proofs.Few.{few-in}
 use Rattle.listing_whole.proofs.Longest.{bytes-part, lines-fit}
@@ -110,15 +110,6 @@ module _ (v : View) (room : ℕ) where
 
   view-begins : FewIn v → (n : ℕ) → Begun (listing v) (written piece n first)
   view-begins few n = begins (written-steps n first) (listed v few) refl
-
-  -- A piece fits its room.
-  held : (n : ℕ) (t : Text) (c : Cursor) → length t ≤ room → length (pieceFrom v room n t c .text) ≤ room
-  unfolding pieceFrom
-  held zero t c h = h
-  held (suc n) t c h =
-      pick (λ (p : Piece). length (p .text) ≤ room) (isDone (c .place)) (λ _. h)
-      (λ _. pick-le (λ (p : Piece). length (p .text) ≤ room) (length (t ++ lineAt v c)) room
-      (λ fits. held n (t ++ lineAt v c) (nextAt v c) fits) (λ _. h))
 
   -- ---- Pieces come to the end, or to a line that does not fit
 
@@ -240,7 +231,7 @@ stays-by (value i) room e = long-line-stays (viewIn i) room (last (pieceOf (view
 held-by : (s : List ℕ) (b : Bundle) (room : ℕ) (c : Cursor) → length (refusedLine (number BadInput)) ≤ room
     → length (answerPiece (bundleSays s b) room c .text) ≤ room
 held-by s Malformed room c h = h
-held-by s (Streams t n b) room c h = held _ room mostSteps [] c (omega arith)
+held-by s (Streams t n b) room c h = piece-fits _ room c
 
 -- What is begun and done is all there.
 ended : {whole : Text} {p : Piece} → Begun whole p → isDone (p .next .place) ≡ true → Ended whole p
@@ -260,6 +251,11 @@ written-begins s room n = begins-by (bundleSays s (bundleOf s)) room n
 pub written-whole : WrittenWhole
 unfolding inputPiece
 written-whole s room bytes h = ended (written-begins s room mostPieces) (over-by s (bundleOf s) room bytes h)
+
+pub pieces-whole : PiecesWhole
+pieces-whole tables strings blob room bytes h =
+    let i : Inputs = record { tables = tables; strings = strings; blob = blob } in
+    ended (view-begins (viewIn i) room (few-there i) mostPieces) (fits-over i room bytes h)
 
 pub written-stays : WrittenStays
 unfolding inputPiece

@@ -69,6 +69,12 @@ WrittenWhole =
     (input : List ℕ) (room : ℕ) → Bytes input → longestLine ≤ room
     → Ended (listingOf input) (written (inputPiece input room) mostPieces first)
 
+-- The same of any streams, however long: what a program has written that asks for pieces by the streams, as one in C does.
+abbrev pub PiecesWhole : Type 0
+PiecesWhole =
+    (tables strings blob : List ℕ) (room : ℕ) → Bytes tables → longestLine ≤ room
+    → let v = view base tables strings blob in Ended (listing v) (written (pieceOf v room) mostPieces first)
+
 -- In a smaller room the pieces may come to a line that does not fit. From there on a piece has no line and stays where it is. Within the
 -- same number of pieces the listing is done, or has come to such a place.
 abbrev pub Stays : (Cursor → Piece) → Cursor → Type 0

@@ -1,10 +1,9 @@
 // The calls for the generic parameters of a method (ECMA-335 II.22.20): how many it has, and their names.
 use buffers::Reply;
 use classes::ClassNumber;
-use header::Opened;
 use header::Options;
-use method_answers::count_method_generics_of;
-use method_answers::write_method_generic_name;
+use questions::NameQuestion;
+use questions::NumberQuestion;
 ghost use Rattle.buffers.specs.Replies.{Named};
 ghost use Rattle.record.specs.View.{view};
 ghost use Rattle.record.specs.Answers.{Numbered, methodGenericCount, methodGenericName};
@@ -21,13 +20,8 @@ pub fn method_generic_count(
     ensures { λ r. let v = view options (now (tables .entry)) (now (strings .entry)) (now (blob .entry)) in
         ⌜ Numbered (methodGenericCount v (class .0) m) r ⌝ }
 {
-    let opened = opening::open(tables, options);
-    let answer = opened.answer;
-    let layout = opened.layout;
-    match answer {
-        Opened::Refused(why) => Reply::No(why),
-        Opened::Ready => count_method_generics_of(tables, &layout, class, m),
-    }
+    let count = NumberQuestion::MethodGenericCount(class, m);
+    asks::ask_number(tables, strings, blob, options, count)
 }
 
 // The name of generic parameter g of method m of a class.
@@ -44,11 +38,6 @@ pub fn method_generic_name(
     ensures { λ r. let v = view options (now (tables .entry)) (now (strings .entry)) (now (blob .entry)) in
         ⌜ Named (methodGenericName v (class .0) m g) (now (buf .entry)) r (now (buf .exit)) ⌝ }
 {
-    let opened = opening::open(tables, options);
-    let answer = opened.answer;
-    let layout = opened.layout;
-    match answer {
-        Opened::Refused(why) => buffers::refuse(buf, why),
-        Opened::Ready => write_method_generic_name(buf, tables, strings, &layout, class, m, g),
-    }
+    let name = NameQuestion::MethodGenericName(class, m, g);
+    asks::ask_name(tables, strings, blob, options, name, buf)
 }

@@ -13,3 +13,4 @@ pub mod Demand
 pub mod Read
 pub mod Cases
 pub mod Example
+pub mod Look

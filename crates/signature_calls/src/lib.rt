@@ -2,12 +2,9 @@
 // the name of each.
 use buffers::Reply;
 use classes::ClassNumber;
-use header::Opened;
 use header::Options;
-use method_answers::count_params_of;
-use method_answers::write_param_name_of;
-use method_answers::write_param_type_of;
-use method_answers::write_return_type_of;
+use questions::NameQuestion;
+use questions::NumberQuestion;
 ghost use Rattle.buffers.specs.Replies.{Named};
 ghost use Rattle.record.specs.View.{view};
 ghost use Rattle.record.specs.Answers.{Numbered, returnType, parameterCount, parameterType, parameterName};
@@ -25,13 +22,8 @@ pub fn return_type(
     ensures { λ r. let v = view options (now (tables .entry)) (now (strings .entry)) (now (blob .entry)) in
         ⌜ Named (returnType v (class .0) m) (now (buf .entry)) r (now (buf .exit)) ⌝ }
 {
-    let opened = opening::open(tables, options);
-    let answer = opened.answer;
-    let layout = opened.layout;
-    match answer {
-        Opened::Refused(why) => buffers::refuse(buf, why),
-        Opened::Ready => write_return_type_of(buf, tables, strings, blob, &layout, class, m),
-    }
+    let returned = NameQuestion::ReturnType(class, m);
+    asks::ask_name(tables, strings, blob, options, returned, buf)
 }
 
 // How many parameters method m of a class has.
@@ -46,13 +38,8 @@ pub fn param_count(
     ensures { λ r. let v = view options (now (tables .entry)) (now (strings .entry)) (now (blob .entry)) in
         ⌜ Numbered (parameterCount v (class .0) m) r ⌝ }
 {
-    let opened = opening::open(tables, options);
-    let answer = opened.answer;
-    let layout = opened.layout;
-    match answer {
-        Opened::Refused(why) => Reply::No(why),
-        Opened::Ready => count_params_of(tables, strings, blob, &layout, class, m),
-    }
+    let count = NumberQuestion::ParamCount(class, m);
+    asks::ask_number(tables, strings, blob, options, count)
 }
 
 // The type of parameter p of method m of a class.
@@ -69,13 +56,8 @@ pub fn param_type(
     ensures { λ r. let v = view options (now (tables .entry)) (now (strings .entry)) (now (blob .entry)) in
         ⌜ Named (parameterType v (class .0) m p) (now (buf .entry)) r (now (buf .exit)) ⌝ }
 {
-    let opened = opening::open(tables, options);
-    let answer = opened.answer;
-    let layout = opened.layout;
-    match answer {
-        Opened::Refused(why) => buffers::refuse(buf, why),
-        Opened::Ready => write_param_type_of(buf, tables, strings, blob, &layout, class, m, p),
-    }
+    let type_of = NameQuestion::ParamType(class, m, p);
+    asks::ask_name(tables, strings, blob, options, type_of, buf)
 }
 
 // The name of parameter p of method m of a class.
@@ -92,11 +74,6 @@ pub fn param_name(
     ensures { λ r. let v = view options (now (tables .entry)) (now (strings .entry)) (now (blob .entry)) in
         ⌜ Named (parameterName v (class .0) m p) (now (buf .entry)) r (now (buf .exit)) ⌝ }
 {
-    let opened = opening::open(tables, options);
-    let answer = opened.answer;
-    let layout = opened.layout;
-    match answer {
-        Opened::Refused(why) => buffers::refuse(buf, why),
-        Opened::Ready => write_param_name_of(buf, tables, strings, blob, &layout, class, m, p),
-    }
+    let name = NameQuestion::ParamName(class, m, p);
+    asks::ask_name(tables, strings, blob, options, name, buf)
 }

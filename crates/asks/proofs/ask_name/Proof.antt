@@ -8,7 +8,7 @@ use Rattle.asks.proofs.ask_name.Reads as reads
 use Rattle.asks.proofs.ask_name.Lts as lts
 use Rattle.buffers.proofs.refuse.Reads as refuse-reads
 use Rattle.opening.proofs.open.Reads as open-reads
-use Rattle.questions.proofs.answer_name.Reads as answer-name-reads
+use Rattle.answers.proofs.answer_name.Reads as answer-name-reads
 
 -- src/lib.rt:74:9
 open-requires : tie.Need-open-requires

@@ -7,7 +7,7 @@ use Rattle.asks.proofs.ask_number.Tie as tie
 use Rattle.asks.proofs.ask_number.Reads as reads
 use Rattle.asks.proofs.ask_number.Lts as lts
 use Rattle.opening.proofs.open.Reads as open-reads
-use Rattle.questions.proofs.answer_number.Reads as answer-number-reads
+use Rattle.answers.proofs.answer_number.Reads as answer-number-reads
 
 -- src/lib.rt:132:9
 open-requires : tie.Need-open-requires

@@ -1,17 +1,17 @@
 use borrow.Author.Needs.{needs}
-use Rattle.record.specs.Answers.{MethodGenericCount}
-use Rattle.dotnet_c.proofs.Laws.{told-number}
+use Rattle.record.specs.Answers.{numberAnswer, MethodGenericCount}
+use Rattle.c_replies.proofs.Laws.{told-number}
 use Rattle.dotnet_c.proofs.dn_method_generic_count.Statement.{statement}
 use Rattle.dotnet_c.proofs.dn_method_generic_count.Tie as tie
 use Rattle.dotnet_c.proofs.dn_method_generic_count.Reads as reads
 use Rattle.dotnet_c.proofs.dn_method_generic_count.Lts as lts
 use Rattle.c_replies.proofs.reply_of.Reads as reply-of-reads
 use Rattle.dotnet.proofs.method_generic_count.Reads as method-generic-count-reads
-use Rattle.header.proofs.base_options.Reads as base-options-reads
+use Rattle.c_questions.proofs.options_of.Reads as options-of-reads
 
 -- src/lib.rt:242:9
-base-options-requires : tie.Need-base-options-requires
-base-options-requires c κs = search needs
+options-of-requires : tie.Need-options-of-requires
+options-of-requires c κs = search needs
 
 -- src/lib.rt:238:25
 method-generic-count-requires : tie.Need-method-generic-count-requires
@@ -23,9 +23,9 @@ reply-of-requires c κs = search needs
 
 -- src/lib.rt:228:1
 returns : tie.Need-returns
-returns c = told-number (c .before .before .base-options .ensures) _ _ _ (c .before .method-generic-count .result) (c .reply-of .ensures) (MethodGenericCount _ _) (c .before .method-generic-count .ensures)
+returns c = told-number (c .before .before .options-of .ensures) _ _ _ (c .before .method-generic-count .result) (c .reply-of .ensures) (numberAnswer (MethodGenericCount _ _)) (c .before .method-generic-count .ensures)
 
 pub dn-method-generic-count-spec : {M : Type 1} → statement M
 dn-method-generic-count-spec =
     tie.close
-    (tie.spec base-options-requires method-generic-count-requires reply-of-requires returns)
+    (tie.spec options-of-requires method-generic-count-requires reply-of-requires returns)

@@ -1,0 +1,27 @@
+-- A piece that fits the buffer is told as it is: its bytes are those that were used. Assumes nothing.
+use mathlib.Core.Path.{_≡_, ap, _∙_}
+use mathlib.Core.Bool.{cond}
+use mathlib.Core.List.{List}
+use Prim.Native.Nat.{ℕ, _≤_}
+use native.Mathlib.Omega.{arith}
+use lib.ListN.{length}
+use Rattle.header.specs.declared.Options.{Options}
+use Rattle.record.specs.View.{view}
+use Rattle.lines.specs.declared.Cursor.{Cursor}
+use Rattle.lines.specs.declared.Step.{Step}
+use Rattle.listing_text.specs.Filling.{isDone, Piece, pieceOf, Filled}
+use Rattle.listing_text.proofs.Filling.{piece-fits}
+use Rattle.c_listing.specs.Told.{toldCursor, toldStep, toldPiece, ToldPiece}
+use Rattle.c_listing.specs.declared.DnPiece.{DnPiece}
+
+told-filled : {p : Piece} {b b′ : List ℕ} {s : Step} {r : DnPiece} → length (p .text) ≤ length b → Filled p b b′ s → r ≡ toldStep s
+    → ToldPiece p b r b′
+told-filled {p} {b} {b′} {s} fits f e =
+    let used : s .at ≡ length (p .text) = omega (arith, f .used, fits) in
+    record { reply = e ∙ rw (used, f .goes); buffer = f .buffer }
+
+pub told-piece : {o p : Options} {from to : Cursor} (t strings blob : List ℕ) {b b′ : List ℕ} {s : Step} {r : DnPiece} → o ≡ p → from ≡ to
+    → Filled (pieceOf (view o t strings blob) (length b) from) b b′ s → r ≡ toldStep s
+    → ToldPiece (pieceOf (view p t strings blob) (length b) to) b r b′
+told-piece {o} {p} {from} {to} t strings blob {b} opened start f e =
+    rw (← opened, ← start) (told-filled (piece-fits (view o t strings blob) (length b) from) f e)

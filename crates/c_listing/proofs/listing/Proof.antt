@@ -1,0 +1,47 @@
+use Rattle.c_listing.proofs.Laws.{told-piece}
+use borrow.Author.Needs.{needs}
+use Rattle.c_listing.proofs.listing.Statement.{statement}
+use Rattle.c_listing.proofs.listing.Tie as tie
+use Rattle.c_listing.proofs.listing.Reads as reads
+use Rattle.c_listing.proofs.listing.Lts as lts
+use Rattle.c_listing.proofs.cursor_of.Reads as cursor-of-reads
+use Rattle.c_listing.proofs.told_step.Reads as told-step-reads
+use Rattle.c_questions.proofs.options_of.Reads as options-of-reads
+use Rattle.listing_text.proofs.fill.Reads as fill-reads
+
+-- src/lib.rt:119:9
+options-of-requires : tie.Need-options-of-requires
+options-of-requires c κs = search needs
+
+-- src/lib.rt:120:9
+cursor-of-requires : tie.Need-cursor-of-requires
+cursor-of-requires c κs = search needs
+
+-- src/lib.rt:121:15
+fill-requires : tie.Need-fill-requires
+fill-requires c κs = search needs
+
+-- src/lib.rt:121:5
+told-step-requires : tie.Need-told-step-requires
+told-step-requires c κs = search needs
+
+-- src/lib.rt:108:1
+same-length : tie.Need-same-length
+same-length c = search needs
+
+-- src/lib.rt:108:1
+returns : tie.Need-returns
+returns c =
+    let a = c .before .before .before .before .before .before .before .before .before .before .before .args in
+    told-piece (a .tables .now) (a .strings .now) (a .blob .now) (c .before .before .before .before .before .before .options-of .ensures) (c .before .before .before .before .before .cursor-of .ensures) (c .before .before .before .fill .ensures) (c .told-step .ensures)
+
+pub listing-spec : {M : Type 1} → statement M
+listing-spec =
+    tie.close
+    (tie.spec
+    options-of-requires
+    cursor-of-requires
+    fill-requires
+    told-step-requires
+    same-length
+    returns)

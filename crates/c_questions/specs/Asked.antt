@@ -1,0 +1,67 @@
+-- What C asks, as the record answers it: the bits of the options, and the numbers of the questions in include/dotnet_tables.h.
+use mathlib.Core.List.{List, [], _∷_}
+use mathlib.Core.Option.{Option, none, some}
+use Prim.Native.Nat.{ℕ}
+use Rattle.buffers.specs.Texts.{Text}
+use Rattle.buffers.specs.Replies.{number, Answer, refused}
+use Rattle.buffers.specs.declared.Refusal.{Refusal}
+use Rattle.buffers.specs.declared.Refusal.the-variants.{NoSuchRow}
+use Rattle.header.specs.Stream.{base}
+use Rattle.header.specs.declared.Options.{Options}
+use Rattle.header.specs.declared.Opened.{Opened}
+use Rattle.header.specs.declared.Opened.the-variants.{Refused, Ready}
+use Rattle.record.specs.View.{View}
+use Rattle.record.specs.Types.{look}
+use Rattle.record.specs.Answers.{NumberCall, numberAnswer, ClassCount, ClassFlags, GenericCount, BaseCount, MethodCount, MethodFlags, MethodGenericCount, ParameterCount}
+use Rattle.record.specs.Answers.{NameCall, nameAnswer, ClassName, GenericName, BaseName, MethodName, MethodGenericName, ReturnType, ParameterType, ParameterName}
+use Rattle.questions.specs.Questions.{numberCall, nameCall}
+use Rattle.c_questions.specs.declared.NumberAsked.{NumberAsked}
+use Rattle.c_questions.specs.declared.NumberAsked.the-variants as number-asked
+use Rattle.c_questions.specs.declared.NameAsked.{NameAsked}
+use Rattle.c_questions.specs.declared.NameAsked.the-variants as name-asked
+
+-- The options that a set of bits means. No bit has a meaning yet, and bits without one are ignored.
+abbrev pub optionsOf : ℕ → Options
+optionsOf bits = base
+
+-- The calls by the numbers of their questions, DN_ASK_ and the call's name, with the call's arguments in its own order. One series: no
+-- number means both a call for a number and a call for a name.
+unfoldable pub numberQuestions : ℕ → ℕ → List (ℕ × Option NumberCall)
+numberQuestions a b =
+    (1, some ClassCount) ∷ (2, some (ClassFlags a)) ∷ (3, some (GenericCount a)) ∷ (4, some (BaseCount a)) ∷
+    (5, some (MethodCount a)) ∷ (6, some (MethodFlags a b)) ∷ (7, some (MethodGenericCount a b)) ∷ (8, some (ParameterCount a b)) ∷
+    []
+
+unfoldable pub nameQuestions : ℕ → ℕ → ℕ → List (ℕ × Option NameCall)
+nameQuestions a b c =
+    (101, some (ClassName a)) ∷ (102, some (GenericName a b)) ∷ (103, some (BaseName a b)) ∷ (104, some (MethodName a b)) ∷
+    (105, some (MethodGenericName a b c)) ∷ (106, some (ReturnType a b)) ∷ (107, some (ParameterType a b c)) ∷ (108, some (ParameterName a b c)) ∷
+    []
+
+abbrev pub numberAsked : ℕ → ℕ → ℕ → Option NumberCall
+numberAsked question a b = look question (numberQuestions a b) none
+
+abbrev pub nameAsked : ℕ → ℕ → ℕ → ℕ → Option NameCall
+nameAsked question a b c = look question (nameQuestions a b c) none
+
+-- No question has such a number: 4, after the refusals of opening.
+abbrev pub noQuestion : Opened → Refusal
+noQuestion (Refused why) = why
+noQuestion Ready = NoSuchRow
+
+abbrev pub askedNumber : Option NumberCall → View → Answer ℕ
+askedNumber none v = refused (number (noQuestion (v .header .answer)))
+askedNumber (some call) v = numberAnswer call v
+
+abbrev pub askedName : Option NameCall → View → Answer Text
+askedName none v = refused (number (noQuestion (v .header .answer)))
+askedName (some call) v = nameAnswer call v
+
+-- What the code found a question number to mean.
+abbrev pub numberMeant : NumberAsked → Option NumberCall
+numberMeant number-asked.NoQuestion = none
+numberMeant (number-asked.Question q) = some (numberCall q)
+
+abbrev pub nameMeant : NameAsked → Option NameCall
+nameMeant name-asked.NoQuestion = none
+nameMeant (name-asked.Question q) = some (nameCall q)

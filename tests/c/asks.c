@@ -1,0 +1,264 @@
+/* Any call by its question, and the listing by pieces, linked as a C program links them:
+
+     asks CASES WRONG
+
+   CASES is crates/replay/data/cases: inputs, and for each the text that the listing program prints; that crate's src/main.rt says the form.
+   WRONG is the file `wrong` beside it, with texts that are wrong on purpose: each must differ. Each question is asked by its number and by
+   the call's own name, which replay.c holds against the record: for all numbers inside and some outside, in buffers of several lengths. The
+   options say nothing yet, so replies and buffers must be the same for all. Exit status: 0 all is as it should be, 1 something is not, 2 a
+   file cannot be read. */
+#include <stdarg.h>
+#include "calls.h"
+#include "recorded.h"
+
+#define COUNT(array) (sizeof(array) / sizeof *(array))
+
+enum { KINDS = 64 };        /* of tables */
+enum { LARGEST = 1 << 16 }; /* bytes of a buffer */
+
+static const uint32_t words[] = {0, 1, 2, 4, 0x80000000, UINT32_MAX}; /* options, and numbers that a question does not have */
+static const size_t rooms[] = {0, 3, 40, 4096};                       /* bytes of a buffer for a name */
+static const uint32_t no_questions[] = {0, 9, 100, 109, 257, 65537, 0x80000001, UINT32_MAX};
+static const uint32_t no_places[] = {13, 256, 65536, UINT32_MAX};
+static const char *const keys[] = {"stop=", "classes=", "class=", "flags=", "generic=", "base=", "method=", "mflags=", "mgeneric=",
+                                   "returns=", "ptype=", "pname="};
+static const dn_cursor start;
+
+static size_t number; /* of the case, from 0 */
+static struct input in;
+static bytes text; /* its listing */
+static uint8_t buf[LARGEST + 1], other[LARGEST + 1];
+
+/* Counts an answer, and prints what it was about where it is not as it should be. */
+static void check(int agrees, const char *format, ...) {
+    char what[200] = "";
+    if (agrees == wrong) {
+        va_list rest;
+        size_t n = (size_t)snprintf(what, sizeof what, "case %zu, options %#x: ", number, (unsigned)in.options);
+        va_start(rest, format);
+        vsnprintf(what + n, sizeof what - n, format, rest);
+        va_end(rest);
+    }
+    tally(agrees, what);
+}
+
+/* A buffer of that length, full of a byte, which also stands behind it. One of length 0 is a null pointer. */
+static struct buffer full(uint8_t *at, size_t room, int byte) {
+    memset(at, byte, room + 1);
+    return (struct buffer){room ? at : NULL, room};
+}
+
+/* ---- questions */
+
+static int same(dn_reply a, dn_reply b) { return a.value == b.value && a.refusal == b.refusal; }
+
+/* Whether that reply and what it left in `other` are as expected in `buf`. */
+static int as_expected(dn_reply reply, dn_reply expected, size_t room) {
+    return same(reply, expected) && !memcmp(other, buf, room) && other[room] == 0x55;
+}
+
+static void check_reply(const struct call *call, const uint32_t *rows, size_t room) {
+    in.options = 0;
+    dn_reply expected = call->ask(&in, rows, full(buf, room, 0xAA));
+    for (size_t i = 0; i < COUNT(words); i++) {
+        uint32_t r[3];
+        in.options = words[i];
+        dn_reply reply = call->ask(&in, rows, full(other, room, 0x55));
+        check(as_expected(reply, expected, room), "dn_%s %u %u %u, %zu bytes", call->name, rows[0], rows[1], rows[2], room);
+        if (!call->question) continue;
+        for (int k = 0; k < 3; k++) r[k] = k < call->rows ? rows[k] : words[i];
+        reply = ask_question(&in, call->question, call->is_name, r, full(other, room, 0x55));
+        check(as_expected(reply, expected, room), "question %u %u %u %u, %zu bytes", call->question, r[0], r[1], r[2], room);
+    }
+}
+
+static void check_call(const struct call *call, const uint32_t *rows) {
+    for (size_t i = 0; i < (call->is_name ? COUNT(rooms) : 1); i++) check_reply(call, rows, rooms[i]);
+}
+
+/* All numbers of a call, one past each end, and the last that there can be. */
+static void each_row(const struct call *call, int depth, uint32_t *rows) {
+    if (depth == call->rows) {
+        check_call(call, rows);
+        return;
+    }
+    in.options = 0;
+    size_t n = calls[call->counted_by[depth]].ask(&in, rows, full(buf, 0, 0)).value;
+    for (rows[depth] = 0; rows[depth] <= n; rows[depth]++) each_row(call, depth + 1, rows);
+    rows[depth] = UINT32_MAX;
+    each_row(call, depth + 1, rows);
+}
+
+/* A question that there is not, or that the other call has: refused as the stream is, and else with 4. */
+static void check_refused(uint32_t question, int is_name) {
+    static const uint32_t rows[3];
+    in.options = 0;
+    size_t refusal = calls[CLASS_COUNT].ask(&in, rows, full(buf, 0, 0)).refusal;
+    dn_reply expected = {0, refusal ? refusal : DN_NO_SUCH_ROW};
+    for (size_t i = 0; i < COUNT(words); i++)
+        for (size_t k = 0; k < (is_name ? COUNT(rooms) : 1); k++) {
+            in.options = words[i];
+            dn_reply reply = ask_question(&in, question, is_name, rows, full(buf, rooms[k], 0xAA));
+            check(same(reply, expected) && zero_from(buf, 0, rooms[k]) && buf[rooms[k]] == 0xAA, "no question %u for a %s, %zu bytes",
+                  question, is_name ? "name" : "number", rooms[k]);
+        }
+}
+
+static void check_extents(void) {
+    for (uint32_t kind = 0; kind <= KINDS; kind++)
+        for (size_t i = 0; i < COUNT(words); i++) {
+            in.options = words[i];
+            dn_extent a = dn_walk_extent(in.tables.at, in.tables.length, 0, kind);
+            dn_extent b = dn_walk_extent(in.tables.at, in.tables.length, in.options, kind);
+            check(a.start == b.start && a.size == b.size && a.rows == b.rows, "dn_walk_extent %u", kind);
+        }
+}
+
+static void check_questions(void) {
+    for (const struct call *call = calls; call < calls + CALLS; call++) {
+        uint32_t rows[3] = {0, 0, 0};
+        each_row(call, 0, rows);
+        if (call->question) check_refused(call->question, !call->is_name);
+    }
+    for (size_t i = 0; i < COUNT(no_questions); i++) check_refused(no_questions[i], 0), check_refused(no_questions[i], 1);
+    check_extents();
+}
+
+/* ---- the listing */
+
+static int same_cursor(dn_cursor a, dn_cursor b) {
+    return a.place == b.place && a.class_number == b.class_number && a.method == b.method && a.item == b.item;
+}
+
+/* Whether a piece in `buf`, which was full of 0xAA, can be one. */
+static int is_piece(dn_piece p, size_t room) {
+    return p.used <= room && p.done <= 1 && (!p.used || buf[p.used - 1] == '\n') && zero_from(buf, p.used, room) && buf[room] == 0xAA;
+}
+
+static int is_nothing(dn_piece p, size_t room, dn_cursor from) {
+    return is_piece(p, room) && !p.used && !p.done && same_cursor(p.next, from);
+}
+
+static int is_key(size_t at) {
+    for (size_t i = 0; i < COUNT(keys); i++)
+        if (text.len - at >= strlen(keys[i]) && !memcmp(text.at + at, keys[i], strlen(keys[i]))) return 1;
+    return 0;
+}
+
+/* The bytes of the line at a place of the text. A name may have line ends in it, so it goes on to one that a key follows. */
+static size_t line_at(size_t at) {
+    size_t end = at;
+    do
+        while (end < text.len && text.at[end++] != '\n') {}
+    while (end < text.len && !is_key(end));
+    return end - at;
+}
+
+/* Whether the text comes by pieces, each of as many lines as a buffer of that length holds. */
+static int lists(size_t room) {
+    dn_cursor from = start;
+    for (size_t at = 0;;) {
+        dn_piece p = list_piece(&in, from, full(buf, room, 0xAA));
+        if (!is_piece(p, room) || p.used > text.len - at || memcmp(buf, text.at + at, p.used)) return 0;
+        at += p.used, from = p.next;
+        if (p.done || at == text.len) return p.done && at == text.len;
+        if (line_at(at) <= room - p.used) return 0;
+    }
+}
+
+/* Each line in a buffer that it fills, and in one that is a byte too short. The answer is the length of the longest. */
+static size_t check_lines(void) {
+    size_t longest = 0, n;
+    dn_cursor from = start;
+    for (size_t at = 0; at < text.len; at += n) {
+        n = line_at(at);
+        check(is_nothing(list_piece(&in, from, full(buf, n - 1, 0xAA)), n - 1, from), "dn_listing at byte %zu, %zu bytes", at, n - 1);
+        dn_piece p = list_piece(&in, from, full(buf, n, 0xAA));
+        check(is_piece(p, n) && p.used == n && !memcmp(buf, text.at + at, n) && p.done == (at + n == text.len),
+              "dn_listing at byte %zu, %zu bytes", at, n);
+        from = p.next;
+        if (n > longest) longest = n;
+    }
+    return longest;
+}
+
+static void check_listing(void) {
+    const size_t sizes[] = {check_lines(), DN_LONGEST_LINE, LARGEST};
+    check(is_nothing(list_piece(&in, start, full(buf, 0, 0xAA)), 0, start), "dn_listing, 0 bytes");
+    for (size_t i = 0; i < COUNT(words); i++)
+        for (size_t k = 0; k < COUNT(sizes); k++) {
+            in.options = words[i];
+            check(lists(sizes[k]), "dn_listing, %zu bytes", sizes[k]);
+        }
+    for (size_t i = 0; i < COUNT(no_places); i++) {
+        dn_piece p = list_piece(&in, (dn_cursor){no_places[i], 0, 0, 0}, full(buf, DN_LONGEST_LINE, 0xAA));
+        check(is_piece(p, DN_LONGEST_LINE) && !p.used && p.done, "dn_listing from place %u", no_places[i]);
+    }
+}
+
+static void check_text(void) { check(lists(DN_LONGEST_LINE), "dn_listing, %d bytes", DN_LONGEST_LINE); }
+
+/* ---- null pointers */
+
+/* The input with streams of length 0 at `spot`: for bit 0 the tables, 1 the strings, 2 the blob. */
+static struct input with_empty(struct input whole, unsigned empty, const uint8_t *spot) {
+    if (empty & 1) whole.tables = (struct bytes){spot, 0};
+    if (empty & 2) whole.strings = (struct bytes){spot, 0};
+    if (empty & 4) whole.blob = (struct bytes){spot, 0};
+    return whole;
+}
+
+/* Every call with null pointers for each choice of the streams, and the listing, which is that of other pointers of length 0. */
+static void check_nulls(void) {
+    static const uint32_t rows[3];
+    static const uint8_t spot;
+    struct input whole = in;
+    for (unsigned empty = 1; empty < 8; empty++) {
+        in = with_empty(whole, empty, &spot);
+        dn_piece a = list_piece(&in, start, full(other, LARGEST, 0x55));
+        in = with_empty(whole, empty, NULL);
+        dn_piece b = list_piece(&in, start, full(buf, LARGEST, 0xAA));
+        check(a.used == b.used && a.done == b.done && same_cursor(a.next, b.next) && !memcmp(other, buf, LARGEST),
+              "dn_listing, null pointers %u", empty);
+        for (const struct call *call = calls; call < calls + CALLS; call++) check_call(call, rows);
+    }
+}
+
+/* ---- cases */
+
+/* Places the streams of an input. One that is no bundle, refusal 8, never reaches the library. */
+static int open_streams(bytes input) {
+    size_t t, s, b;
+    int head;
+    if (text.len == 10 && !memcmp(text.at, "refused=8\n", 10)) return 0;
+    if (sscanf((char *)input.at, "tables=%zu\nstrings=%zu\nblob=%zu%n", &t, &s, &b, &head) != 3) return 0;
+    const uint8_t *at = input.at + head + 1;
+    in = (struct input){{at, t}, {at + t, s}, {at + t + s, b}, 0};
+    return (size_t)head + 1 + t + s + b == input.len;
+}
+
+static void each_case(bytes file, void (*look)(void)) {
+    bytes input;
+    size_t at = 0;
+    for (number = 0; next_case(file, &at, &input, &text); number++)
+        if (open_streams(input)) look();
+}
+
+static void ask_questions(bytes file) { each_case(file, check_questions); }
+
+static void ask_nulls(bytes file) { each_case(file, check_nulls); }
+
+static void list_pieces(bytes file) { each_case(file, check_listing); }
+
+static void list_texts(bytes file) { each_case(file, check_text); }
+
+int main(int count, char **paths) {
+    if (count != 3) return fprintf(stderr, "usage: asks CASES WRONG\n"), 2;
+    tally(dn_version() == DN_VERSION, "dn_version");
+    int well = report("version");
+    well &= replay(paths[1], ask_questions, "questions", 0);
+    well &= replay(paths[1], ask_nulls, "questions by null pointers", 0);
+    well &= replay(paths[1], list_pieces, "listings by pieces", 0);
+    well &= replay(paths[2], list_texts, "listings by pieces", 1);
+    return well ? 0 : 1;
+}
