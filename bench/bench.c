@@ -1,15 +1,19 @@
-/* Our listing by calls and the Rust's two, in one process, and single calls of ours. Run under callgrind by bench/run, which counts what
-   each function named measure_.. costs; the lines that this prints say in order which they were, and lines= how many the listing has.
+/* Our listing by calls and by pieces and the Rust's two, in one process, and single calls of ours. Run under callgrind by bench/run, which
+   counts what each function named measure_.. costs; the lines that this prints say in order which they were, and lines= how many the
+   listing has.
 
      bench INPUT LISTING
      bench TIMES INPUT LISTING   makes only the Rust's listing of the part that we take, so many times, for bench/growth.py
 
    INPUT is a file of the listing program's form, and the listing is written to LISTING. Exit status: 0, or 1 where the listings differ,
    or 2 where a file cannot be read or written. */
+#include <fcntl.h>
 #include <sys/types.h>
+#include <unistd.h>
 #include "listing.h"
 
 #define ROOM (1 << 27) /* bytes of a listing */
+#define PIECE 65536 /* bytes of a piece, as many as the listing program takes */
 #define MEASURED __attribute__((noinline))
 
 /* liboracle.a */
@@ -24,20 +28,47 @@ ssize_t getrandom(void *to, size_t n, unsigned flags) {
     return (ssize_t)n;
 }
 
-static uint8_t rust_text[ROOM];
+static uint8_t other_text[ROOM];
 static char our_text[ROOM];
 static struct input in;
+
+static size_t read_all(int file, uint8_t *to, size_t room) {
+    size_t n = 0;
+    for (ssize_t more; n < room && (more = read(file, to + n, room - n)) > 0;) n += (size_t)more;
+    return n;
+}
+
+static int write_all(int file, const uint8_t *from, size_t n) {
+    for (ssize_t done; n; from += done, n -= (size_t)done)
+        if ((done = write(file, from, n)) <= 0) return 0;
+    return 1;
+}
+
+static int open_file(int file, uint8_t data[MOST + 1], struct input *to) { return open_input(data, read_all(file, data, MOST + 1), to); }
 
 /* ---- what is measured */
 
 size_t measure_fair(void) MEASURED;
-size_t measure_fair(void) { return rust_fields(in.tables, in.strings, in.blob, rust_text, ROOM); }
+size_t measure_fair(void) { return rust_fields(in.tables, in.strings, in.blob, other_text, ROOM); }
 
 size_t measure_values(void) MEASURED;
-size_t measure_values(void) { return rust_values(in.tables, in.strings, in.blob, rust_text, ROOM); }
+size_t measure_values(void) { return rust_values(in.tables, in.strings, in.blob, other_text, ROOM); }
 
 void measure_listing(struct listing *listing) MEASURED;
 void measure_listing(struct listing *listing) { list(listing); }
+
+/* All that the listing program does, from reading the input to writing the last piece. */
+int measure_pieces(int input, int output) MEASURED;
+int measure_pieces(int input, int output) {
+    static uint8_t data[MOST + 1], text[PIECE];
+    struct input own;
+    if (!open_file(input, data, &own)) return 0;
+    for (dn_piece piece = { 0 }; !piece.done;) {
+        piece = list_piece(&own, piece.next, (struct buffer){ text, sizeof text });
+        if (!write_all(output, text, piece.used)) return 0;
+    }
+    return 1;
+}
 
 dn_reply measure_call(int call, const uint32_t *r, struct buffer buffer) MEASURED;
 dn_reply measure_call(int call, const uint32_t *r, struct buffer buffer) { return calls[call].ask(&in, r, buffer); }
@@ -45,20 +76,28 @@ dn_reply measure_call(int call, const uint32_t *r, struct buffer buffer) { retur
 /* ---- the order of it */
 
 static void compare(size_t length, const struct listing *ours) {
-    if (length == ours->length && !memcmp(rust_text, our_text, length)) return;
+    if (length == ours->length && !memcmp(other_text, our_text, length)) return;
     fprintf(stderr, "bench: the listings differ\n");
     exit(1);
 }
 
+static void fail(const char *what) {
+    fprintf(stderr, "bench: %s\n", what);
+    exit(2);
+}
+
 /* The Rust's are made once before, so that nothing is done for the first time. */
-static size_t all_listings(void) {
+static size_t all_listings(int input, int output) {
     struct listing listing = { &in, our_text, 0, ROOM };
     printf("calls\n");
     measure_listing(&listing);
-    rust_fields(in.tables, in.strings, in.blob, rust_text, ROOM);
+    printf("pieces\n");
+    if (lseek(input, 0, SEEK_SET) || !measure_pieces(input, output) || lseek(output, 0, SEEK_SET)) fail("the listing cannot be written");
+    compare(read_all(output, other_text, ROOM), &listing);
+    rust_fields(in.tables, in.strings, in.blob, other_text, ROOM);
     printf("fair\n");
     compare(measure_fair(), &listing);
-    rust_values(in.tables, in.strings, in.blob, rust_text, ROOM);
+    rust_values(in.tables, in.strings, in.blob, other_text, ROOM);
     printf("values\n");
     compare(measure_values(), &listing);
     return listing.length;
@@ -102,13 +141,12 @@ static size_t fair_listings(int times) {
 int main(int argc, char **argv) {
     static uint8_t data[MOST + 1];
     int given = argc == 3 || argc == 4, times = argc == 4 ? atoi(argv[1]) : 0;
-    FILE *file = given ? fopen(argv[argc - 2], "rb") : 0, *out = file ? fopen(argv[argc - 1], "wb") : 0;
-    size_t n = out ? fread(data, 1, sizeof data, file) : 0;
-    if (!out || !open_input(data, n, &in)) {
-        fprintf(stderr, "usage: bench [TIMES] INPUT LISTING\n");
-        return 2;
-    }
-    size_t length = times ? fair_listings(times) : all_listings();
-    if (!times) single_calls(), print_lines(length);
-    return fwrite(times ? (char *)rust_text : our_text, 1, length, out) == length && !fclose(out) ? 0 : 2;
+    int input = given ? open(argv[argc - 2], O_RDONLY) : -1;
+    int output = input < 0 ? -1 : open(argv[argc - 1], O_RDWR | O_CREAT | O_TRUNC, 0666);
+    if (output < 0 || !open_file(input, data, &in)) fail("usage: bench [TIMES] INPUT LISTING");
+    if (times) return write_all(output, other_text, fair_listings(times)) ? 0 : 2;
+    size_t length = all_listings(input, output);
+    single_calls();
+    print_lines(length);
+    return 0;
 }

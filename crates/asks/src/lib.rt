@@ -4,6 +4,7 @@ use header::Opened;
 use header::Options;
 use questions::NameQuestion;
 use questions::NumberQuestion;
+use rows::columns;
 ghost use Rattle.buffers.specs.Replies.{Named};
 ghost use Rattle.record.specs.View.{view};
 ghost use Rattle.record.specs.Answers.{Numbered, numberAnswer, nameAnswer};
@@ -20,10 +21,8 @@ pub fn ask_number(
     ensures { λ r. let v = view options (now (tables .entry)) (now (strings .entry)) (now (blob .entry)) in
         ⌜ Numbered (numberAnswer (numberCall question) v) r ⌝ }
 {
-    let opened = opening::open(tables, options);
-    let answer = opened.answer;
-    let layout = opened.layout;
-    match answer {
+    let mut layout = [0usize; columns::SIZE];
+    match opening::open(tables, options, &mut layout) {
         Opened::Refused(why) => Reply::No(why),
         Opened::Ready => answers::answer_number(tables, strings, blob, &layout, question),
     }
@@ -41,10 +40,8 @@ pub fn ask_name(
     ensures { λ r. let v = view options (now (tables .entry)) (now (strings .entry)) (now (blob .entry)) in
         ⌜ Named (nameAnswer (nameCall question) v) (now (buf .entry)) r (now (buf .exit)) ⌝ }
 {
-    let opened = opening::open(tables, options);
-    let answer = opened.answer;
-    let layout = opened.layout;
-    match answer {
+    let mut layout = [0usize; columns::SIZE];
+    match opening::open(tables, options, &mut layout) {
         Opened::Refused(why) => buffers::refuse(buf, why),
         Opened::Ready => { answers::answer_name(buf, tables, strings, blob, &layout, question) }
     }

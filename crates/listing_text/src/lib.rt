@@ -8,6 +8,7 @@ use lines::Cursor;
 use lines::Place;
 use lines::Step;
 use rows::Layout;
+use rows::columns;
 ghost use mathlib.Core.Path.{_≡_};
 ghost use mathlib.Core.List.{List};
 ghost use Prim.Native.Nat.{ℕ};
@@ -169,10 +170,8 @@ pub fn fill(
     ensures { λ r. let v = view options (now (tables .entry)) (now (strings .entry)) (now (blob .entry)) in
         ⌜ Filled (pieceOf v (length (now (out .entry))) from) (now (out .entry)) (now (out .exit)) r ⌝ }
 {
-    let found = opening::open(tables, options);
-    let answer = found.answer;
-    let mut layout = found.layout;
-    match answer {
+    let mut layout = [0usize; columns::SIZE];
+    match opening::open(tables, options, &mut layout) {
         Opened::Refused(why) => {
             let s = fill_refused(why, from, out);
             end_piece(s, out)

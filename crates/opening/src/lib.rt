@@ -1,5 +1,4 @@
 // Opening a tables stream (ECMA-335 II.24.2.6): whether it is refused, and the layout by which its columns are read.
-use buffers::Refusal;
 use header::Opened;
 use header::Options;
 use numbers::wide;
@@ -10,7 +9,7 @@ ghost use mathlib.Core.Bool.{cond, _&&_, not};
 ghost use Prim.Native.Nat.{_≤_, _<_};
 ghost use lib.Dec.{eqb};
 ghost use lib.ListN.{replicate};
-ghost use Rattle.header.specs.declared.Opened.the-variants.{Refused, Ready};
+ghost use Rattle.header.specs.declared.Opened.the-variants.{Ready};
 ghost use Rattle.tables.specs.Extents.{onlyEntire};
 ghost use Rattle.rows.specs.Columns as columns;
 ghost use Rattle.rows.specs.Layout.{layoutOf};
@@ -25,12 +24,6 @@ const INTERFACE_IMPL: usize = 0x09;
 const MEMBER_REF: usize = 0x0A;
 // II.22.39
 const TYPE_SPEC: usize = 0x1B;
-
-// What opening a stream finds: whether it is refused, and the layout, zeros after a refusal.
-pub struct Opening {
-    pub answer: Opened,
-    pub layout: Layout,
-}
 
 fn flag(b: bool) -> usize
     ensures { λ r. ⌜ r ≡ cond b 1 0 ⌝ }
@@ -72,11 +65,19 @@ fn kept_rows(kind: usize, rows: u32, count: u32) -> usize
     wide(rows)
 }
 
-// The layout of a stream of that length, opened with these options, with what its header says.
-fn lay(len: usize, first: usize, heap: u8, counts: &[u32; 64], options: Options) -> Layout
+// Lays out a stream of that length, opened with these options, with what its header says.
+fn lay(
+    layout: &mut Layout,
+    len: usize,
+    first: usize,
+    heap: u8,
+    counts: &[u32; 64],
+    options: Options,
+)
     requires { ⌜ (first ≤ len) × (len < 9223372036854775808) ⌝ }
-    ensures { λ r.
-        ⌜ (Unmarked (layoutOf options (record { answer = Ready; heap = heap; first = first; counts = now (counts .entry) }) len) r) ×
+    requires { ⌜ now layout ≡ replicate columns.size 0 ⌝ }
+    ensures { λ _.
+        ⌜ (Unmarked (layoutOf options (record { answer = Ready; heap = heap; first = first; counts = now (counts .entry) }) len) (now (layout .exit))) ×
         (options .limit < 4294967296) ⌝ }
 {
     let security = options.security;
@@ -85,7 +86,6 @@ fn lay(len: usize, first: usize, heap: u8, counts: &[u32; 64], options: Options)
     let kinds = layouts::columns::column_kinds();
     let offsets = layouts::columns::column_offsets(sizes);
     let widths = layouts::columns::column_widths(sizes);
-    let mut layout = [0usize; columns::SIZE];
     for c in 0..columns::COUNT {
         let kind = kinds[c];
         layout[4 * c] = walk.starts[kind] + wide(offsets[c]);
@@ -95,33 +95,22 @@ fn lay(len: usize, first: usize, heap: u8, counts: &[u32; 64], options: Options)
     }
     layout[columns::LIMIT] = wide(options.limit);
     layout[columns::SECURITY] = flag(security);
-    layout
 }
 
-fn refuse(why: Refusal) -> Opening
-    ensures { λ r. ⌜ (r .answer ≡ Refused why) × (r .layout ≡ replicate columns.size 0) ⌝ }
-{
-    Opening {
-        answer: Opened::Refused(why),
-        layout: [0; columns::SIZE],
-    }
-}
-
-pub fn open(tables: &[u8], options: Options) -> Opening
-    ensures { λ r. ⌜ OpenedAs options (now (tables .entry)) (r .answer) (r .layout) ⌝ }
+// What is lent for the layout is zero, and stays so where the stream is refused.
+pub fn open(tables: &[u8], options: Options, layout: &mut Layout) -> Opened
+    requires { ⌜ now layout ≡ replicate columns.size 0 ⌝ }
+    ensures { λ r. ⌜ OpenedAs options (now (tables .entry)) r (now (layout .exit)) ⌝ }
 {
     let h = header::read_header(tables, options);
     let answer = h.answer;
     let first = h.first;
     let heap = h.heap;
     match answer {
-        Opened::Refused(why) => refuse(why),
+        Opened::Refused(why) => Opened::Refused(why),
         Opened::Ready => {
-            let layout = lay(tables.len(), first, heap, &h.counts, options);
-            Opening {
-                answer: Opened::Ready,
-                layout,
-            }
+            lay(layout, tables.len(), first, heap, &h.counts, options);
+            Opened::Ready
         }
     }
 }

@@ -15,6 +15,7 @@ use header::Opened;
 use header::base_options;
 use rendering::Rendering;
 use rows::Layout;
+use rows::columns;
 use sig_leaves::Owner;
 ghost use Rattle.rows.specs.Layout.{Laid};
 
@@ -225,10 +226,8 @@ fn render(
     blob: &[u8],
     owners: Owners,
 ) -> Came {
-    let opened = opening::open(tables, base_options());
-    let answer = opened.answer;
-    let layout = opened.layout;
-    match answer {
+    let mut layout = [0usize; columns::SIZE];
+    match opening::open(tables, base_options(), &mut layout) {
         Opened::Refused(why) => Came {
             reply: Reply::No(why),
             next: 0,

@@ -1,57 +1,57 @@
-use borrow.Author.Needs.{needs}
 use Rattle.questions.specs.Questions.{nameCall}
 use Rattle.opening.proofs.Laws.{opened-laid}
 use Rattle.opening.proofs.Calls.{name-refused, name-ready}
+use borrow.Author.Needs.{needs}
 use Rattle.asks.proofs.ask_name.Statement.{statement}
 use Rattle.asks.proofs.ask_name.Tie as tie
 use Rattle.asks.proofs.ask_name.Reads as reads
 use Rattle.asks.proofs.ask_name.Lts as lts
+use Rattle.answers.proofs.answer_name.Reads as answer-name-reads
 use Rattle.buffers.proofs.refuse.Reads as refuse-reads
 use Rattle.opening.proofs.open.Reads as open-reads
-use Rattle.answers.proofs.answer_name.Reads as answer-name-reads
 
--- src/lib.rt:74:9
+-- src/lib.rt:44:11
 open-requires : tie.Need-open-requires
 open-requires c κs = search needs
 
--- src/lib.rt:78:25
-enum-known-answer : tie.Need-enum-known-answer
-enum-known-answer c = search needs
+-- src/lib.rt:45:25
+enum-known-why : tie.Need-enum-known-why
+enum-known-why c = search needs
 
--- src/lib.rt:78:33
+-- src/lib.rt:45:33
 refuse-requires : tie.Need-refuse-requires
 refuse-requires c κs = search needs
 
--- src/lib.rt:79:38
+-- src/lib.rt:46:49
 enum-told : tie.Need-enum-told
 enum-told c = search needs
 
--- src/lib.rt:79:26
+-- src/lib.rt:46:28
 answer-name-requires : tie.Need-answer-name-requires
-answer-name-requires c κs = opened-laid (c .before .before .before .before .before .«open» .ensures) (c .before .before .enum-told .given .1)
+answer-name-requires c κs = opened-laid (c .before .before .before .before .«open» .ensures) (c .before .before .enum-told .given .1)
 
--- src/lib.rt:64:1
+-- src/lib.rt:32:1
 same-length : tie.Need-same-length
 same-length c = search needs
 
--- src/lib.rt:64:1
+-- src/lib.rt:32:1
 returns : tie.Need-returns
-returns c = name-refused _ _ (c .before .before .before .before .before .before .before .before .«open» .ensures) (c .before .before .before .before .before .answer .given .1) (nameCall (c .before .before .before .before .before .before .before .before .before .before .before .before .before .args .question)) (c .before .before .refuse .ensures)
+returns c = name-refused _ _ (c .before .before .before .before .before .before .before .«open» .ensures) (c .before .before .before .before .before .why .given .1) (nameCall (c .before .before .before .before .before .before .before .before .before .before .before .before .before .args .question)) (c .before .before .refuse .ensures)
 
--- src/lib.rt:64:1
+-- src/lib.rt:32:1
 same-length-2 : tie.Need-same-length-2
 same-length-2 c = search needs
 
--- src/lib.rt:64:1
+-- src/lib.rt:32:1
 returns-2 : tie.Need-returns-2
-returns-2 c = name-ready _ _ (c .before .before .before .before .before .before .before .before .«open» .ensures) (c .before .before .before .before .before .enum-told .given .1) (nameCall (c .before .before .before .before .before .before .before .before .before .before .before .before .before .args .question)) (c .before .before .answer-name .ensures)
+returns-2 c = name-ready _ _ (c .before .before .before .before .before .before .before .«open» .ensures) (c .before .before .before .before .before .enum-told .given .1) (nameCall (c .before .before .before .before .before .before .before .before .before .before .before .before .before .args .question)) (c .before .before .answer-name .ensures)
 
 pub ask-name-spec : {M : Type 1} → statement M
 ask-name-spec =
     tie.close
     (tie.spec
     open-requires
-    enum-known-answer
+    enum-known-why
     refuse-requires
     enum-told
     answer-name-requires

@@ -1,39 +1,39 @@
-use borrow.Author.Needs.{needs}
 use Rattle.questions.specs.Questions.{numberCall}
 use Rattle.opening.proofs.Laws.{opened-laid}
 use Rattle.opening.proofs.Calls.{number-refused, number-ready}
+use borrow.Author.Needs.{needs}
 use Rattle.asks.proofs.ask_number.Statement.{statement}
 use Rattle.asks.proofs.ask_number.Tie as tie
 use Rattle.asks.proofs.ask_number.Reads as reads
 use Rattle.asks.proofs.ask_number.Lts as lts
-use Rattle.opening.proofs.open.Reads as open-reads
 use Rattle.answers.proofs.answer_number.Reads as answer-number-reads
+use Rattle.opening.proofs.open.Reads as open-reads
 
--- src/lib.rt:132:9
+-- src/lib.rt:25:11
 open-requires : tie.Need-open-requires
 open-requires c κs = search needs
 
--- src/lib.rt:136:25
-enum-known-answer : tie.Need-enum-known-answer
-enum-known-answer c = search needs
+-- src/lib.rt:26:25
+enum-known-why : tie.Need-enum-known-why
+enum-known-why c = search needs
 
--- src/lib.rt:137:63
+-- src/lib.rt:27:72
 enum-told : tie.Need-enum-told
 enum-told c = search needs
 
--- src/lib.rt:137:26
+-- src/lib.rt:27:26
 answer-number-requires : tie.Need-answer-number-requires
-answer-number-requires c κs = opened-laid (c .before .before .before .before .«open» .ensures) (c .before .enum-told .given .1)
+answer-number-requires c κs = opened-laid (c .before .before .before .«open» .ensures) (c .before .enum-told .given .1)
 
--- src/lib.rt:123:1
+-- src/lib.rt:14:1
 returns : tie.Need-returns
-returns c = number-refused _ _ (c .before .before .before .before .«open» .ensures) (c .before .answer .given .1) (numberCall (c .before .before .before .before .before .before .before .before .args .question))
+returns c = number-refused _ _ (c .before .before .before .«open» .ensures) (c .before .why .given .1) (numberCall (c .before .before .before .before .before .before .before .before .args .question))
 
--- src/lib.rt:123:1
+-- src/lib.rt:14:1
 returns-2 : tie.Need-returns-2
-returns-2 c = number-ready _ _ (c .before .before .before .before .before .«open» .ensures) (c .before .before .enum-told .given .1) (numberCall (c .before .before .before .before .before .before .before .before .before .args .question)) (c .answer-number .result) (c .answer-number .ensures)
+returns-2 c = number-ready _ _ (c .before .before .before .before .«open» .ensures) (c .before .before .enum-told .given .1) (numberCall (c .before .before .before .before .before .before .before .before .before .args .question)) (c .answer-number .result) (c .answer-number .ensures)
 
 pub ask-number-spec : {M : Type 1} → statement M
 ask-number-spec =
     tie.close
-    (tie.spec open-requires enum-known-answer enum-told answer-number-requires returns returns-2)
+    (tie.spec open-requires enum-known-why enum-told answer-number-requires returns returns-2)

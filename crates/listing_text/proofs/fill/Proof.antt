@@ -16,8 +16,8 @@ open-requires : tie.Need-open-requires
 open-requires c κs = search needs
 
 -- src/lib.rt:169:25
-enum-known-answer : tie.Need-enum-known-answer
-enum-known-answer c = search needs
+enum-known-why : tie.Need-enum-known-why
+enum-known-why c = search needs
 
 -- src/lib.rt:169:33
 fill-refused-requires : tie.Need-fill-refused-requires
@@ -29,14 +29,14 @@ enum-told c = search needs
 
 -- src/lib.rt:171:13
 mark-columns-requires : tie.Need-mark-columns-requires
-mark-columns-requires c κs = opened-laid (c .before .before .before .before .«open» .ensures) (c .before .enum-told .given .1)
+mark-columns-requires c κs = opened-laid (c .before .before .before .«open» .ensures) (c .before .enum-told .given .1)
 
 -- src/lib.rt:172:13
 fill-opened-requires : tie.Need-fill-opened-requires
 fill-opened-requires c κs =
     let marked = c .before .before in
     let told = marked .before .before in
-    let opened = told .before .before .before .«open» .ensures in
+    let opened = told .before .before .«open» .ensures in
     let m = marked .mark-columns .ensures in
     (m .laid, λ s b. marked-view m s b ∙ opened-view opened (told .enum-told .given .1) s b)
 
@@ -51,9 +51,9 @@ same-length c = search needs
 -- src/lib.rt:155:1
 returns : tie.Need-returns
 returns c =
-    let at-answer = c .before .before .before .before .before .before .before .before .before in
-    let opened = at-answer .before .before .before .«open» .ensures in
-    c .before .before .end-piece .ensures _ _ (c .before .before .before .before .before .before .fill-refused .ensures _ _ _ _ (sym (opened .answer) ∙ at-answer .answer .given .1))
+    let at-why = c .before .before .before .before .before .before .before .before .before in
+    let opened = at-why .before .before .«open» .ensures in
+    c .before .before .end-piece .ensures _ _ (c .before .before .before .before .before .before .fill-refused .ensures _ _ _ _ (sym (opened .answer) ∙ at-why .why .given .1))
 
 -- src/lib.rt:155:1
 end-piece-requires-2 : tie.Need-end-piece-requires-2
@@ -72,7 +72,7 @@ fill-spec =
     tie.close
     (tie.spec
     open-requires
-    enum-known-answer
+    enum-known-why
     fill-refused-requires
     end-piece-requires
     enum-told

@@ -26,11 +26,11 @@ use Rattle.numbers.proofs.wide.Reads as wide-reads
 use Rattle.tables.proofs.walk_tables.Reads as walk-tables-reads
 
 abbrev Inv-loop : tie.InvT-loop
-Inv-loop len first heap counts options security walk kinds offsets widths layout₀ c₀ layout c =
+Inv-loop layout₀ len first heap counts options security walk kinds offsets widths c₀ layout c =
     (c ≤ columns.count) × Filled (layoutOf options (record { answer = Ready; heap = heap; first = first; counts = counts }) len) layout (4 * c)
 
 abbrev μ-loop : tie.MeasureT-loop
-μ-loop len first heap counts options security walk kinds offsets widths layout₀ c₀ layout c = columns.count - c
+μ-loop layout₀ len first heap counts options security walk kinds offsets widths c₀ layout c = columns.count - c
 
 -- src/lib.rt:83:9
 index-sizes-requires : tie.Need-index-sizes-requires Inv-loop μ-loop
@@ -38,7 +38,7 @@ index-sizes-requires c κs = search needs
 
 -- src/lib.rt:84:16
 walk-tables-requires : tie.Need-walk-tables-requires Inv-loop μ-loop
-walk-tables-requires c κs = (c .before .pre .0, λ k h. rw (c .index-sizes .ensures) (size-pos _ _ _ k h))
+walk-tables-requires c κs = (c .before .pre .0 .0, λ k h. rw (c .index-sizes .ensures) (size-pos _ _ _ k h))
 
 -- src/lib.rt:85:17
 column-kinds-requires : tie.Need-column-kinds-requires Inv-loop μ-loop
@@ -54,7 +54,7 @@ column-widths-requires c κs = search needs
 
 -- src/lib.rt:89:5
 loop-holds : tie.Need-loop-holds Inv-loop μ-loop
-loop-holds c = (omega arith, empty _)
+loop-holds c = (omega arith, rw (c .before .before .before .before .before .pre .1) (empty _))
 
 -- src/lib.rt:90:20
 mul-kind : tie.Need-mul-kind Inv-loop μ-loop
@@ -91,9 +91,9 @@ add-layout c =
     let kinds = l .before .before .before in
     let walk = kinds .before in
     let a = walk .before .before in
-    let s = start-within _ _ _ _ (a .pre .0) (walk .walk-tables .result) (walk .walk-tables .ensures) (getD (kinds .column-kinds .result) (l .loop .c) 0) in
+    let s = start-within _ _ _ _ (a .pre .0 .0) (walk .walk-tables .result) (walk .walk-tables .ensures) (getD (kinds .column-kinds .result) (l .loop .c) 0) in
     let w = c .wide .ensures .1 in
-    omega (arith, s, a .pre .1)
+    omega (arith, s, a .pre .0 .1)
 
 -- src/lib.rt:91:16
 mul-layout-2 : tie.Need-mul-layout-2 Inv-loop μ-loop
@@ -104,8 +104,8 @@ mul-layout-3 : tie.Need-mul-layout-3 Inv-loop μ-loop
 mul-layout-3 c = search needs
 
 -- src/lib.rt:91:9
-array-write-layout : tie.Need-array-write-layout Inv-loop μ-loop
-array-write-layout c = search needs
+element-write-layout : tie.Need-element-write-layout Inv-loop μ-loop
+element-write-layout c = search needs
 
 -- src/lib.rt:92:34
 mul-wide-2 : tie.Need-mul-wide-2 Inv-loop μ-loop
@@ -132,8 +132,8 @@ mul-layout-5 : tie.Need-mul-layout-5 Inv-loop μ-loop
 mul-layout-5 c = search needs
 
 -- src/lib.rt:92:9
-array-write-layout-2 : tie.Need-array-write-layout-2 Inv-loop μ-loop
-array-write-layout-2 c = search needs
+element-write-layout-2 : tie.Need-element-write-layout-2 Inv-loop μ-loop
+element-write-layout-2 c = search needs
 
 -- src/lib.rt:93:34
 mul-wide-3 : tie.Need-mul-wide-3 Inv-loop μ-loop
@@ -160,8 +160,8 @@ mul-layout-7 : tie.Need-mul-layout-7 Inv-loop μ-loop
 mul-layout-7 c = search needs
 
 -- src/lib.rt:93:9
-array-write-layout-3 : tie.Need-array-write-layout-3 Inv-loop μ-loop
-array-write-layout-3 c = search needs
+element-write-layout-3 : tie.Need-element-write-layout-3 Inv-loop μ-loop
+element-write-layout-3 c = search needs
 
 -- src/lib.rt:94:45
 mul-kept-rows : tie.Need-mul-kept-rows Inv-loop μ-loop
@@ -196,8 +196,8 @@ mul-layout-9 : tie.Need-mul-layout-9 Inv-loop μ-loop
 mul-layout-9 c = search needs
 
 -- src/lib.rt:94:9
-array-write-layout-4 : tie.Need-array-write-layout-4 Inv-loop μ-loop
-array-write-layout-4 c = search needs
+element-write-layout-4 : tie.Need-element-write-layout-4 Inv-loop μ-loop
+element-write-layout-4 c = search needs
 
 -- src/lib.rt:89:9
 add-c : tie.Need-add-c Inv-loop μ-loop
@@ -239,16 +239,16 @@ wide-requires-4 : tie.Need-wide-requires-4 Inv-loop μ-loop
 wide-requires-4 c κs = search needs
 
 -- src/lib.rt:96:5
-array-write-layout-5 : tie.Need-array-write-layout-5 Inv-loop μ-loop
-array-write-layout-5 c = search needs
+element-write-layout-5 : tie.Need-element-write-layout-5 Inv-loop μ-loop
+element-write-layout-5 c = search needs
 
 -- src/lib.rt:97:18
 flag-requires : tie.Need-flag-requires Inv-loop μ-loop
 flag-requires c κs = search needs
 
 -- src/lib.rt:97:5
-array-write-layout-6 : tie.Need-array-write-layout-6 Inv-loop μ-loop
-array-write-layout-6 c = search needs
+element-write-layout-6 : tie.Need-element-write-layout-6 Inv-loop μ-loop
+element-write-layout-6 c = search needs
 
 -- src/lib.rt:78:1
 returns : tie.Need-returns Inv-loop μ-loop
@@ -279,21 +279,21 @@ lay-spec =
     add-layout
     mul-layout-2
     mul-layout-3
-    array-write-layout
+    element-write-layout
     mul-wide-2
     element-copy-out-wide
     wide-requires-2
     mul-layout-4
     add-layout-2
     mul-layout-5
-    array-write-layout-2
+    element-write-layout-2
     mul-wide-3
     array-read-wide-2
     wide-requires-3
     mul-layout-6
     add-layout-3
     mul-layout-7
-    array-write-layout-3
+    element-write-layout-3
     mul-kept-rows
     element-copy-out-kept-rows
     mul-kept-rows-2
@@ -302,12 +302,12 @@ lay-spec =
     mul-layout-8
     add-layout-4
     mul-layout-9
-    array-write-layout-4
+    element-write-layout-4
     add-c
     loop-less
     loop-again
     wide-requires-4
-    array-write-layout-5
+    element-write-layout-5
     flag-requires
-    array-write-layout-6
+    element-write-layout-6
     returns)

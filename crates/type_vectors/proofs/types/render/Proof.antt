@@ -17,8 +17,8 @@ open-requires : tie.Need-open-requires
 open-requires c κs = search needs
 
 -- src/types.rt:232:25
-enum-known-answer : tie.Need-enum-known-answer
-enum-known-answer c = search needs
+enum-known-why : tie.Need-enum-known-why
+enum-known-why c = search needs
 
 -- src/types.rt:236:36
 enum-told : tie.Need-enum-told
@@ -26,7 +26,7 @@ enum-told c = search needs
 
 -- src/types.rt:236:26
 render-by-requires : tie.Need-render-by-requires
-render-by-requires c κs = opened-laid (c .before .before .before .before .before .«open» .ensures) (c .before .before .enum-told .given .1)
+render-by-requires c κs = opened-laid (c .before .before .before .before .«open» .ensures) (c .before .before .enum-told .given .1)
 
 -- src/types.rt:220:1
 returns : tie.Need-returns
@@ -46,7 +46,7 @@ render-spec =
     (tie.spec
     base-options-requires
     open-requires
-    enum-known-answer
+    enum-known-why
     enum-told
     render-by-requires
     returns
