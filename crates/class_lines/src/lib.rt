@@ -12,15 +12,15 @@ use lines::Step;
 use lines::cursor_at;
 use lines::next_number;
 use rows::Layout;
+ghost use mathlib.Core.Path.{_≡_};
 ghost use Prim.Native.Nat.{ℕ};
+ghost use lib.ListN.{length};
 ghost use Rattle.buffers.specs.Replies.{replySays};
 ghost use Rattle.record.specs.View.{view};
 ghost use Rattle.rows.specs.Layout.{Laid, viewIn};
+ghost use Rattle.lines.specs.Lines.{longest};
 ghost use Rattle.lines.specs.Cursors.{cursor, stopLine, afterStop, Went, Stepped};
 ghost use Rattle.lines.specs.declared.Place.the-variants.{Stop, Classes, Class, Flags, Generic, Base};
-
-// A longer name is not shown, but `!`.
-const LONGEST: usize = 4096;
 
 // Where the walk was left; a refusal ends the listing.
 fn stop_step(out: &mut [u8], at: usize, reply: Reply) -> Step
@@ -85,18 +85,19 @@ pub fn class_line(
     blob: &[u8],
     layout: &Layout,
     class: ClassNumber,
+    name: &mut [u8],
     out: &mut [u8],
     at: usize,
 ) -> Step
     requires { ⌜ Laid (now tables) (now layout) ⌝ }
+    requires { ⌜ length (now name) ≡ longest ⌝ }
     ensures { λ r. let v = viewIn (now (tables .entry)) (now (layout .entry)) (now (strings .entry)) (now (blob .entry)) in
         ⌜ ((m i : ℕ) → Stepped v (cursor Class (class .0) m i) (now (out .entry)) at (now (out .exit)) r) ⌝ }
 {
-    let mut name = [0u8; LONGEST];
-    let reply = write_class_name(&mut name, tables, strings, layout, class);
+    let reply = write_class_name(name, tables, strings, layout, class);
     let more = cursor_at(Place::Flags, class, 0, 0);
     let past = lines::done_cursor();
-    lines::name_step(out, at, b"class=", reply, &name, more, past)
+    lines::name_step(out, at, b"class=", reply, name, more, past)
 }
 
 // The flags of a class.
@@ -131,18 +132,19 @@ pub fn generic_line(
     layout: &Layout,
     class: ClassNumber,
     i: u32,
+    name: &mut [u8],
     out: &mut [u8],
     at: usize,
 ) -> Step
     requires { ⌜ Laid (now tables) (now layout) ⌝ }
+    requires { ⌜ length (now name) ≡ longest ⌝ }
     ensures { λ r. let v = viewIn (now (tables .entry)) (now (layout .entry)) (now (strings .entry)) (now (blob .entry)) in
         ⌜ ((m : ℕ) → Stepped v (cursor Generic (class .0) m i) (now (out .entry)) at (now (out .exit)) r) ⌝ }
 {
-    let mut name = [0u8; LONGEST];
-    let reply = write_generic_name(&mut name, tables, strings, layout, class, i);
+    let reply = write_generic_name(name, tables, strings, layout, class, i);
     let more = cursor_at(Place::Generic, class, 0, next_number(i));
     let past = cursor_at(Place::Base, class, 0, 0);
-    lines::name_step(out, at, b"generic=", reply, &name, more, past)
+    lines::name_step(out, at, b"generic=", reply, name, more, past)
 }
 
 // A base type of a class.
@@ -153,16 +155,17 @@ pub fn base_line(
     layout: &Layout,
     class: ClassNumber,
     i: u32,
+    name: &mut [u8],
     out: &mut [u8],
     at: usize,
 ) -> Step
     requires { ⌜ Laid (now tables) (now layout) ⌝ }
+    requires { ⌜ length (now name) ≡ longest ⌝ }
     ensures { λ r. let v = viewIn (now (tables .entry)) (now (layout .entry)) (now (strings .entry)) (now (blob .entry)) in
         ⌜ ((m : ℕ) → Stepped v (cursor Base (class .0) m i) (now (out .entry)) at (now (out .exit)) r) ⌝ }
 {
-    let mut name = [0u8; LONGEST];
-    let reply = write_base_name(&mut name, tables, strings, blob, layout, class, i);
+    let reply = write_base_name(name, tables, strings, blob, layout, class, i);
     let more = cursor_at(Place::Base, class, 0, next_number(i));
     let past = cursor_at(Place::Method, class, 0, 0);
-    lines::name_step(out, at, b"base=", reply, &name, more, past)
+    lines::name_step(out, at, b"base=", reply, name, more, past)
 }

@@ -18,9 +18,13 @@ ghost use Rattle.header.specs.declared.Options.{Options as Opts};
 ghost use Rattle.header.specs.declared.Opened.the-variants.{Refused};
 ghost use Rattle.record.specs.View.{View, view};
 ghost use Rattle.rows.specs.Layout.{Laid, viewIn};
+ghost use Rattle.lines.specs.Lines.{longest};
 ghost use Rattle.lines.specs.Cursors.{cursor, Stepped};
 ghost use Rattle.lines.specs.declared.Place.the-variants.{Done};
 ghost use Rattle.listing_text.specs.Filling.{isDone, pieceOf, Piece, inputPiece, Pieced, Filled};
+
+// A longer name is not shown, but `!`: so much room is lent for each, one after the other.
+const LONGEST: usize = 4096;
 
 // Whether a listing is at its end.
 pub fn is_done(c: Cursor) -> bool
@@ -48,11 +52,13 @@ fn next_line(
     options: Options,
     layout: &Layout,
     c: Cursor,
+    name: &mut [u8],
     out: &mut [u8],
     at: usize,
 ) -> Step
     requires { ⌜ Laid (now tables) (now layout) ⌝ }
     requires { ⌜ ((s b : List ℕ) → viewIn (now tables) (now layout) s b ≡ view options (now tables) s b) ⌝ }
+    requires { ⌜ length (now name) ≡ longest ⌝ }
     ensures { λ r. let v = view options (now (tables .entry)) (now (strings .entry)) (now (blob .entry)) in
         ⌜ Stepped v c (now (out .entry)) at (now (out .exit)) r ⌝ }
 {
@@ -63,29 +69,59 @@ fn next_line(
     match place {
         Place::Stop => class_lines::stop_line(tables, strings, blob, options, out, at),
         Place::Classes => class_lines::classes_line(tables, strings, blob, layout, out, at),
-        Place::Class => class_lines::class_line(tables, strings, blob, layout, class, out, at),
+        Place::Class => class_lines::class_line(
+            tables,
+            strings,
+            blob,
+            layout,
+            class,
+            name,
+            out,
+            at,
+        ),
         Place::Flags => class_lines::flags_line(tables, strings, blob, layout, class, out, at),
         Place::Generic => {
-            class_lines::generic_line(tables, strings, blob, layout, class, i, out, at)
+            class_lines::generic_line(tables, strings, blob, layout, class, i, name, out, at)
         }
-        Place::Base => class_lines::base_line(tables, strings, blob, layout, class, i, out, at),
+        Place::Base => class_lines::base_line(
+            tables,
+            strings,
+            blob,
+            layout,
+            class,
+            i,
+            name,
+            out,
+            at,
+        ),
         Place::Method => {
-            method_lines::method_line(tables, strings, blob, layout, class, m, out, at)
+            method_lines::method_line(tables, strings, blob, layout, class, m, name, out, at)
         }
         Place::MethodFlags => {
             method_lines::method_flags_line(tables, strings, blob, layout, class, m, out, at)
         }
         Place::MethodGeneric => {
-            method_lines::method_generic_line(tables, strings, blob, layout, class, m, i, out, at)
+            method_lines::method_generic_line(
+                tables,
+                strings,
+                blob,
+                layout,
+                class,
+                m,
+                i,
+                name,
+                out,
+                at,
+            )
         }
         Place::Returns => {
-            method_lines::returns_line(tables, strings, blob, layout, class, m, out, at)
+            method_lines::returns_line(tables, strings, blob, layout, class, m, name, out, at)
         }
         Place::ParamType => {
-            method_lines::param_type_line(tables, strings, blob, layout, class, m, i, out, at)
+            method_lines::param_type_line(tables, strings, blob, layout, class, m, i, name, out, at)
         }
         Place::ParamName => {
-            method_lines::param_name_line(tables, strings, blob, layout, class, m, i, out, at)
+            method_lines::param_name_line(tables, strings, blob, layout, class, m, i, name, out, at)
         }
         Place::Done => done_line(out, at),
     }
@@ -99,10 +135,12 @@ fn fill_opened(
     options: Options,
     layout: &Layout,
     from: Cursor,
+    name: &mut [u8],
     out: &mut [u8],
 ) -> Step
     requires { ⌜ Laid (now tables) (now layout) ⌝ }
     requires { ⌜ ((s b : List ℕ) → viewIn (now tables) (now layout) s b ≡ view options (now tables) s b) ⌝ }
+    requires { ⌜ length (now name) ≡ longest ⌝ }
     ensures { λ r. let v = view options (now (tables .entry)) (now (strings .entry)) (now (blob .entry)) in
         ⌜ Pieced (pieceOf v (length (now (out .entry))) from) (now (out .entry)) (now (out .exit)) r ⌝ }
 {
@@ -113,7 +151,7 @@ fn fill_opened(
         if is_done(c) {
             return Step { next: c, at };
         }
-        let s = next_line(tables, strings, blob, options, layout, c, out, at);
+        let s = next_line(tables, strings, blob, options, layout, c, name, out, at);
         let end = s.at;
         if out.len() < end {
             return Step { next: c, at };
@@ -178,7 +216,17 @@ pub fn fill(
         }
         Opened::Ready => {
             marks::mark_columns(tables, &mut layout);
-            let s = fill_opened(tables, strings, blob, options, &layout, from, out);
+            let mut name = [0u8; LONGEST];
+            let s = fill_opened(
+                tables,
+                strings,
+                blob,
+                options,
+                &layout,
+                from,
+                &mut name,
+                out,
+            );
             end_piece(s, out)
         }
     }

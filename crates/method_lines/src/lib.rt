@@ -11,13 +11,13 @@ use method_answers::write_param_name_of;
 use method_answers::write_param_type_of;
 use method_answers::write_return_type_of;
 use rows::Layout;
+ghost use mathlib.Core.Path.{_≡_};
 ghost use Prim.Native.Nat.{ℕ};
+ghost use lib.ListN.{length};
 ghost use Rattle.rows.specs.Layout.{Laid, viewIn};
+ghost use Rattle.lines.specs.Lines.{longest};
 ghost use Rattle.lines.specs.Cursors.{cursor, Stepped};
 ghost use Rattle.lines.specs.declared.Place.the-variants.{Method, MethodFlags, MethodGeneric, Returns, ParamType, ParamName};
-
-// A longer name is not shown, but `!`.
-const LONGEST: usize = 4096;
 
 // The name of a method.
 pub fn method_line(
@@ -27,18 +27,19 @@ pub fn method_line(
     layout: &Layout,
     class: ClassNumber,
     m: u32,
+    name: &mut [u8],
     out: &mut [u8],
     at: usize,
 ) -> Step
     requires { ⌜ Laid (now tables) (now layout) ⌝ }
+    requires { ⌜ length (now name) ≡ longest ⌝ }
     ensures { λ r. let v = viewIn (now (tables .entry)) (now (layout .entry)) (now (strings .entry)) (now (blob .entry)) in
         ⌜ ((i : ℕ) → Stepped v (cursor Method (class .0) m i) (now (out .entry)) at (now (out .exit)) r) ⌝ }
 {
-    let mut name = [0u8; LONGEST];
-    let reply = write_method_name(&mut name, tables, strings, layout, class, m);
+    let reply = write_method_name(name, tables, strings, layout, class, m);
     let more = cursor_at(Place::MethodFlags, class, m, 0);
     let past = cursor_at(Place::Class, lines::next_class(class), 0, 0);
-    lines::name_step(out, at, b"method=", reply, &name, more, past)
+    lines::name_step(out, at, b"method=", reply, name, more, past)
 }
 
 // The flags of a method.
@@ -75,18 +76,19 @@ pub fn method_generic_line(
     class: ClassNumber,
     m: u32,
     i: u32,
+    name: &mut [u8],
     out: &mut [u8],
     at: usize,
 ) -> Step
     requires { ⌜ Laid (now tables) (now layout) ⌝ }
+    requires { ⌜ length (now name) ≡ longest ⌝ }
     ensures { λ r. let v = viewIn (now (tables .entry)) (now (layout .entry)) (now (strings .entry)) (now (blob .entry)) in
         ⌜ Stepped v (cursor MethodGeneric (class .0) m i) (now (out .entry)) at (now (out .exit)) r ⌝ }
 {
-    let mut name = [0u8; LONGEST];
-    let reply = write_method_generic_name(&mut name, tables, strings, layout, class, m, i);
+    let reply = write_method_generic_name(name, tables, strings, layout, class, m, i);
     let more = cursor_at(Place::MethodGeneric, class, m, next_number(i));
     let past = cursor_at(Place::Returns, class, m, 0);
-    lines::name_step(out, at, b"mgeneric=", reply, &name, more, past)
+    lines::name_step(out, at, b"mgeneric=", reply, name, more, past)
 }
 
 // The return type of a method.
@@ -97,16 +99,17 @@ pub fn returns_line(
     layout: &Layout,
     class: ClassNumber,
     m: u32,
+    name: &mut [u8],
     out: &mut [u8],
     at: usize,
 ) -> Step
     requires { ⌜ Laid (now tables) (now layout) ⌝ }
+    requires { ⌜ length (now name) ≡ longest ⌝ }
     ensures { λ r. let v = viewIn (now (tables .entry)) (now (layout .entry)) (now (strings .entry)) (now (blob .entry)) in
         ⌜ ((i : ℕ) → Stepped v (cursor Returns (class .0) m i) (now (out .entry)) at (now (out .exit)) r) ⌝ }
 {
-    let mut name = [0u8; LONGEST];
-    let reply = write_return_type_of(&mut name, tables, strings, blob, layout, class, m);
-    let end = lines::push_name(out, at, b"returns=", reply, &name);
+    let reply = write_return_type_of(name, tables, strings, blob, layout, class, m);
+    let end = lines::push_name(out, at, b"returns=", reply, name);
     Step {
         next: cursor_at(Place::ParamType, class, m, 0),
         at: end,
@@ -122,18 +125,19 @@ pub fn param_type_line(
     class: ClassNumber,
     m: u32,
     i: u32,
+    name: &mut [u8],
     out: &mut [u8],
     at: usize,
 ) -> Step
     requires { ⌜ Laid (now tables) (now layout) ⌝ }
+    requires { ⌜ length (now name) ≡ longest ⌝ }
     ensures { λ r. let v = viewIn (now (tables .entry)) (now (layout .entry)) (now (strings .entry)) (now (blob .entry)) in
         ⌜ Stepped v (cursor ParamType (class .0) m i) (now (out .entry)) at (now (out .exit)) r ⌝ }
 {
-    let mut name = [0u8; LONGEST];
-    let reply = write_param_type_of(&mut name, tables, strings, blob, layout, class, m, i);
+    let reply = write_param_type_of(name, tables, strings, blob, layout, class, m, i);
     let more = cursor_at(Place::ParamName, class, m, i);
     let past = cursor_at(Place::Method, class, next_number(m), 0);
-    lines::name_step(out, at, b"ptype=", reply, &name, more, past)
+    lines::name_step(out, at, b"ptype=", reply, name, more, past)
 }
 
 // The name of a parameter.
@@ -145,16 +149,17 @@ pub fn param_name_line(
     class: ClassNumber,
     m: u32,
     i: u32,
+    name: &mut [u8],
     out: &mut [u8],
     at: usize,
 ) -> Step
     requires { ⌜ Laid (now tables) (now layout) ⌝ }
+    requires { ⌜ length (now name) ≡ longest ⌝ }
     ensures { λ r. let v = viewIn (now (tables .entry)) (now (layout .entry)) (now (strings .entry)) (now (blob .entry)) in
         ⌜ Stepped v (cursor ParamName (class .0) m i) (now (out .entry)) at (now (out .exit)) r ⌝ }
 {
-    let mut name = [0u8; LONGEST];
-    let reply = write_param_name_of(&mut name, tables, strings, blob, layout, class, m, i);
-    let end = lines::push_name(out, at, b"pname=", reply, &name);
+    let reply = write_param_name_of(name, tables, strings, blob, layout, class, m, i);
+    let end = lines::push_name(out, at, b"pname=", reply, name);
     Step {
         next: cursor_at(Place::ParamType, class, m, next_number(i)),
         at: end,

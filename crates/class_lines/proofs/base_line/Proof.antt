@@ -1,5 +1,3 @@
-use Prim.Native.Nat.{ℕ}
-use lib.ListN.{length-replicate}
 use Rattle.lines.proofs.Stepping.{base-goes}
 use borrow.Author.Needs.{needs}
 use Rattle.class_lines.proofs.base_line.Statement.{statement}
@@ -11,58 +9,53 @@ use Rattle.lines.proofs.cursor_at.Reads as cursor-at-reads
 use Rattle.lines.proofs.name_step.Reads as name-step-reads
 use Rattle.lines.proofs.next_number.Reads as next-number-reads
 
--- src/lib.rt:159:9
-slice-aggregate-write-base-name : tie.Need-slice-aggregate-write-base-name
-slice-aggregate-write-base-name c = search needs
-
--- src/lib.rt:158:9
+-- src/lib.rt:167:9
 write-base-name-requires : tie.Need-write-base-name-requires
 write-base-name-requires c κs = search needs
 
--- src/lib.rt:167:49
+-- src/lib.rt:168:49
 next-number-requires : tie.Need-next-number-requires
 next-number-requires c κs = search needs
 
--- src/lib.rt:167:9
+-- src/lib.rt:168:9
 cursor-at-requires : tie.Need-cursor-at-requires
 cursor-at-requires c κs = search needs
 
--- src/lib.rt:168:9
+-- src/lib.rt:169:9
 cursor-at-requires-2 : tie.Need-cursor-at-requires-2
 cursor-at-requires-2 c κs = search needs
 
--- src/lib.rt:169:31
+-- src/lib.rt:170:31
 slice-aggregate-name-step : tie.Need-slice-aggregate-name-step
 slice-aggregate-name-step c = search needs
 
--- src/lib.rt:169:48
-slice-aggregate-name-step-2 : tie.Need-slice-aggregate-name-step-2
-slice-aggregate-name-step-2 c = search needs
-
--- src/lib.rt:169:5
+-- src/lib.rt:170:5
 name-step-requires : tie.Need-name-step-requires
 name-step-requires c κs = search needs
 
--- src/lib.rt:144:1
+-- src/lib.rt:151:1
 same-length : tie.Need-same-length
 same-length c = search needs
 
--- src/lib.rt:144:1
+-- src/lib.rt:151:1
+same-length-2 : tie.Need-same-length-2
+same-length-2 c = search needs
+
+-- src/lib.rt:151:1
 returns : tie.Need-returns
 returns c = λ m. base-goes _ _ m _ (c .before .before .before .before .before .before .before .before .next-number .ensures) (c .before .before .before .before .before .before .before .cursor-at .ensures) (c .before .before .before .before .before .before .cursor-at2 .ensures)
-    (c .before .before .name-step .ensures _ _ (length-replicate {A = ℕ} 4096 0) (c .before .before .before .before .before .before .before .before .before .before .write-base-name .ensures))
+    (c .before .before .name-step .ensures _ _ (c .before .before .before .before .before .before .before .before .before .before .before .before .before .before .before .before .before .before .pre .1) (c .before .before .before .before .before .before .before .before .before .before .before .write-base-name .ensures))
 
 pub base-line-spec : {M : Type 1} → statement M
 base-line-spec =
     tie.close
     (tie.spec
-    slice-aggregate-write-base-name
     write-base-name-requires
     next-number-requires
     cursor-at-requires
     cursor-at-requires-2
     slice-aggregate-name-step
-    slice-aggregate-name-step-2
     name-step-requires
     same-length
+    same-length-2
     returns)

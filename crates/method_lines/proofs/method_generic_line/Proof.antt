@@ -1,5 +1,3 @@
-use Prim.Native.Nat.{ℕ}
-use lib.ListN.{length-replicate}
 use Rattle.lines.proofs.Stepping.{method-generic-goes}
 use borrow.Author.Needs.{needs}
 use Rattle.method_lines.proofs.method_generic_line.Statement.{statement}
@@ -11,58 +9,53 @@ use Rattle.lines.proofs.name_step.Reads as name-step-reads
 use Rattle.lines.proofs.next_number.Reads as next-number-reads
 use Rattle.method_answers.proofs.write_method_generic_name.Reads as write-method-generic-name-reads
 
--- src/lib.rt:84:9
-slice-aggregate-write-method-generic-name : tie.Need-slice-aggregate-write-method-generic-name
-slice-aggregate-write-method-generic-name c = search needs
-
--- src/lib.rt:83:9
+-- src/lib.rt:88:9
 write-method-generic-name-requires : tie.Need-write-method-generic-name-requires
 write-method-generic-name-requires c κs = search needs
 
--- src/lib.rt:92:58
+-- src/lib.rt:89:58
 next-number-requires : tie.Need-next-number-requires
 next-number-requires c κs = search needs
 
--- src/lib.rt:92:9
+-- src/lib.rt:89:9
 cursor-at-requires : tie.Need-cursor-at-requires
 cursor-at-requires c κs = search needs
 
--- src/lib.rt:93:9
+-- src/lib.rt:90:9
 cursor-at-requires-2 : tie.Need-cursor-at-requires-2
 cursor-at-requires-2 c κs = search needs
 
--- src/lib.rt:94:31
+-- src/lib.rt:91:31
 slice-aggregate-name-step : tie.Need-slice-aggregate-name-step
 slice-aggregate-name-step c = search needs
 
--- src/lib.rt:94:52
-slice-aggregate-name-step-2 : tie.Need-slice-aggregate-name-step-2
-slice-aggregate-name-step-2 c = search needs
-
--- src/lib.rt:94:5
+-- src/lib.rt:91:5
 name-step-requires : tie.Need-name-step-requires
 name-step-requires c κs = search needs
 
--- src/lib.rt:68:1
+-- src/lib.rt:71:1
 same-length : tie.Need-same-length
 same-length c = search needs
 
--- src/lib.rt:68:1
+-- src/lib.rt:71:1
+same-length-2 : tie.Need-same-length-2
+same-length-2 c = search needs
+
+-- src/lib.rt:71:1
 returns : tie.Need-returns
 returns c = method-generic-goes _ _ _ _ (c .before .before .before .before .before .before .before .before .next-number .ensures) (c .before .before .before .before .before .before .before .cursor-at .ensures) (c .before .before .before .before .before .before .cursor-at2 .ensures)
-    (c .before .before .name-step .ensures _ _ (length-replicate {A = ℕ} 4096 0) (c .before .before .before .before .before .before .before .before .before .before .write-method-generic-name .ensures _))
+    (c .before .before .name-step .ensures _ _ (c .before .before .before .before .before .before .before .before .before .before .before .before .before .before .before .before .before .before .pre .1) (c .before .before .before .before .before .before .before .before .before .before .before .write-method-generic-name .ensures _))
 
 pub method-generic-line-spec : {M : Type 1} → statement M
 method-generic-line-spec =
     tie.close
     (tie.spec
-    slice-aggregate-write-method-generic-name
     write-method-generic-name-requires
     next-number-requires
     cursor-at-requires
     cursor-at-requires-2
     slice-aggregate-name-step
-    slice-aggregate-name-step-2
     name-step-requires
     same-length
+    same-length-2
     returns)

@@ -1,5 +1,3 @@
-use Prim.Native.Nat.{ℕ}
-use lib.ListN.{length-replicate}
 use Rattle.lines.proofs.Stepping.{returns-goes}
 use borrow.Author.Needs.{needs}
 use Rattle.method_lines.proofs.returns_line.Statement.{statement}
@@ -10,47 +8,42 @@ use Rattle.lines.proofs.cursor_at.Reads as cursor-at-reads
 use Rattle.lines.proofs.push_name.Reads as push-name-reads
 use Rattle.method_answers.proofs.write_return_type_of.Reads as write-return-type-of-reads
 
--- src/lib.rt:113:9
-slice-aggregate-write-return-type-of : tie.Need-slice-aggregate-write-return-type-of
-slice-aggregate-write-return-type-of c = search needs
-
--- src/lib.rt:112:9
+-- src/lib.rt:111:9
 write-return-type-of-requires : tie.Need-write-return-type-of-requires
 write-return-type-of-requires c κs = search needs
 
--- src/lib.rt:121:41
+-- src/lib.rt:112:41
 slice-aggregate-push-name : tie.Need-slice-aggregate-push-name
 slice-aggregate-push-name c = search needs
 
--- src/lib.rt:121:61
-slice-aggregate-push-name-2 : tie.Need-slice-aggregate-push-name-2
-slice-aggregate-push-name-2 c = search needs
-
--- src/lib.rt:121:9
+-- src/lib.rt:112:9
 push-name-requires : tie.Need-push-name-requires
 push-name-requires c κs = search needs
 
--- src/lib.rt:123:15
+-- src/lib.rt:114:15
 cursor-at-requires : tie.Need-cursor-at-requires
 cursor-at-requires c κs = search needs
 
--- src/lib.rt:98:1
+-- src/lib.rt:95:1
 same-length : tie.Need-same-length
 same-length c = search needs
 
--- src/lib.rt:98:1
+-- src/lib.rt:95:1
+same-length-2 : tie.Need-same-length-2
+same-length-2 c = search needs
+
+-- src/lib.rt:95:1
 returns : tie.Need-returns
-returns c = λ i. returns-goes _ _ _ i (c .cursor-at .ensures) (c .before .before .before .push-name .ensures _ _ (length-replicate {A = ℕ} 4096 0) (c .before .before .before .before .before .before .before .before .write-return-type-of .ensures))
+returns c = λ i. returns-goes _ _ _ i (c .cursor-at .ensures) (c .before .before .before .push-name .ensures _ _ (c .before .before .before .before .before .before .before .before .before .before .before .before .before .before .before .before .pre .1) (c .before .before .before .before .before .before .before .before .before .write-return-type-of .ensures))
 
 pub returns-line-spec : {M : Type 1} → statement M
 returns-line-spec =
     tie.close
     (tie.spec
-    slice-aggregate-write-return-type-of
     write-return-type-of-requires
     slice-aggregate-push-name
-    slice-aggregate-push-name-2
     push-name-requires
     cursor-at-requires
     same-length
+    same-length-2
     returns)
