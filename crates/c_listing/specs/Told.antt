@@ -47,6 +47,10 @@ cursorOf c = cursor (placeOf (c .place)) (c .«class_number») (c .method) (c .i
 abbrev pub toldCursor : Cursor → DnCursor
 toldCursor c = record { place = placeNumber (c .place); «class_number» = c .class .0; method = c .method; item = c .i }
 
+-- A cursor that was told means, asked with again, the cursor that it was: so a listing goes on where its last piece ended.
+abbrev pub CursorsReturn : Type 0
+CursorsReturn = (c : Cursor) → cursorOf (toldCursor c) ≡ c
+
 -- What a step through the listing says.
 abbrev pub toldStep : Step → DnPiece
 toldStep s = record { used = s .at; done = cond (isDone (s .next .place)) 1 0; next = toldCursor (s .next) }

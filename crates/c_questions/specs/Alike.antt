@@ -15,8 +15,8 @@ use Rattle.c_replies.specs.declared.DnReply.{DnReply}
 use Rattle.c_questions.specs.Asked.{askedNumber, askedName}
 
 -- The two tables streams, opened alike and with the same heaps, have the same replies and buffers: where the walk stops, what it says of
--- each kind, every call for a number, and every call for a name with buffers of equal length, however filled before. Where no call is
--- meant (`none`), the question's number is none.
+-- each kind, every call for a number, and every call for a name with buffers of equal length, however filled before. `none` is what a
+-- question number means that there is not.
 pub record SameReplies (o : Options) (t u strings blob : List ℕ) : Type 0 where
   pub stop-same : told (walkOf o u .stop) ≡ told (walkOf o t .stop)
   pub extents-same : (kind : ℕ) → toldExtent (walkOf o u) kind ≡ toldExtent (walkOf o t) kind
