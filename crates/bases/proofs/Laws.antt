@@ -1,38 +1,55 @@
--- The base types of a class are the names of its candidates, in order; and the turns of a scan over them. Assumes nothing.
-use mathlib.Core.Path.{_≡_, refl, sym, ap, _∙_}
-use mathlib.Core.Bool.{Bool, true, false, cond, true≢false}
+-- The base types of a class among its first candidates; the turns of a search over them; and the candidates by the rows that they come
+-- from. Assumes nothing.
+use mathlib.Core.Path.{_≡_, refl, sym, ap, _∙_, subst}
 use mathlib.Core.List.{List, [], _∷_, _++_, map, map-append, append-nil}
-use mathlib.Core.Option.{Option, none, some}
+use mathlib.Core.Option.{Option, none, some, Option·none-ne-some, Option·some-ne-none, Option·some-injective}
 use Prim.Native.Nat.{ℕ, zero, suc, _+_, _-_, _*_, _≤_, _<_}
-use mathlib.Core.Logic.{_≢_, ⊎-elim}
-use native.Mathlib.Nat.{eq-zero-or-pos}
 use native.Mathlib.Numerals.{add-one}
 use native.Mathlib.Omega.{arith}
-use borrow.Author.Tests.{eq-eqb, ne-eqb}
-use lib.Dec.{eqb}
-use lib.ListN.{length, getElem?, length-append}
-use Rattle.numbers.specs.Lists.{tabulate}
+use lib.ListN.{length, getElem?, take, drop, length-append}
+use lib.Seq.{take-all}
 use Rattle.numbers.proofs.Lists.{item-seam, item-past}
 use Rattle.buffers.specs.Texts.{Text}
-use Rattle.buffers.specs.Writes.{Kept, Said, missing, written}
-use Rattle.buffers.proofs.Writing.{kept-same, said-some, said-none}
-use Rattle.tables.specs.Extents.{sizesIn}
+use Rattle.buffers.specs.Writes.{Kept, Said, missing, written, placeSays}
+use Rattle.buffers.specs.declared.Place.{Place}
+use Rattle.buffers.specs.declared.Place.the-variants.{Next, Missing}
+use Rattle.buffers.proofs.Writing.{kept-same, said-some, said-none, kept-then, wrote-anew}
 use Rattle.record.specs.Missing.{over, orDefault, present}
-use Rattle.record.specs.Rows.{ofKey}
-use Rattle.record.specs.Columns.{extends, implClass, implInterface}
-use Rattle.layouts.specs.Kinds.{interfaceImpl}
-use Rattle.record.specs.View.{View, viewOf, sideRow}
+use Rattle.record.specs.Columns.{extends}
+use Rattle.record.specs.View.{View, viewOf}
 use Rattle.record.specs.Types.{typeFullName, type}
 use Rattle.record.specs.Names.{numberIn, classRow, sizesOf, levels, typeNameIn, baseTypes}
 use Rattle.record.proofs.Read.{class-row}
 use Rattle.rows.specs.Columns as columns
 use Rattle.rows.specs.Layout.{Laid, rowsAt, cell, optionsIn, headerIn, viewIn}
-use Rattle.rows.proofs.Laws.{rows-at}
 use Rattle.rows.proofs.Classes.{classes-are}
 use Rattle.sig_leaves.specs.declared.Owner.the-variants.{Of, Nobody}
 use Rattle.signatures.specs.Environment.{envIn}
-use Rattle.keys.specs.Keyed.{OnlyIn}
-use Rattle.bases.specs.Candidates.{candidate, nextCandidate, isThere, firstNames}
+use Rattle.keys.specs.Keyed.{keyed, FoundIs}
+use Rattle.keys.specs.declared.Row.{Row}
+use Rattle.keys.specs.declared.Row.the-variants.{At, NoRow}
+use Rattle.keys.proofs.Laws.{keyed-none, keyed-at-most, interfaces-count, interfaces-found, interfaces-missed, interfaces-passed}
+use Rattle.bases.specs.Candidates.{candidates, basesAmong, KnowsBases, CandidateIs, index, past}
+use Rattle.bases.specs.declared.Bases.{Bases}
+use Rattle.bases.specs.declared.Candidate.{Candidate}
+use Rattle.bases.specs.declared.Candidate.the-variants.{Index, NoCandidate}
+
+-- ---- An item of a list
+
+item-cut : {A : Type 0} (l : List A) (i : ℕ) {x : A} → getElem? l i ≡ some x → l ≡ take i l ++ x ∷ drop (suc i) l
+item-cut [] i {x} e = absurd (Option·none-ne-some x e)
+item-cut (y ∷ l) zero {x} e = ap (λ z. z ∷ l) (Option·some-injective y x e)
+item-cut (y ∷ l) (suc i) e = ap (λ r. y ∷ r) (item-cut l i e)
+
+item-take : {A : Type 0} (l : List A) (i : ℕ) {x : A} → getElem? l i ≡ some x → take (suc i) l ≡ take i l ++ x ∷ []
+item-take [] i {x} e = absurd (Option·none-ne-some x e)
+item-take (y ∷ l) zero {x} e = ap (λ z. z ∷ []) (Option·some-injective y x e)
+item-take (y ∷ l) (suc i) e = ap (λ r. y ∷ r) (item-take l i e)
+
+item-none : {A : Type 0} (l : List A) (i : ℕ) → getElem? l i ≡ none → length l ≤ i
+item-none [] i e = omega arith
+item-none (y ∷ l) zero e = absurd (Option·some-ne-none y e)
+item-none (y ∷ l) (suc i) e = omega (arith, item-none l i e)
 
 -- ---- Names of which some are missing
 
@@ -41,134 +58,71 @@ present-append [] m = refl
 present-append (none ∷ l) m = present-append l m
 present-append (some a ∷ l) m = ap (λ k. a ∷ k) (present-append l m)
 
-tabulate-split : {A : Type 0} (f : ℕ → A) (j i n : ℕ) → tabulate f j (i + n) ≡ tabulate f j i ++ tabulate f (j + i) n
-unfolding tabulate
-tabulate-split f j zero n =
-    let a : 0 + n ≡ n = omega arith in
-    let b : j + 0 ≡ j = omega arith in
-    rw (a, b) refl
-tabulate-split f j (suc i) n =
-    let a : suc i + n ≡ suc (i + n) = omega arith in
-    let b : j + suc i ≡ j + 1 + i = omega arith in
-    rw (a, b) (ap (λ l. f j ∷ l) (tabulate-split f (j + 1) i n))
+named-append : {A : Type 0} (f : ℕ → Option A) (l m : List ℕ) → present (map f (l ++ m)) ≡ present (map f l) ++ present (map f m)
+named-append f l m = ap present (map-append f l m) ∙ present-append (map f l) (map f m)
 
-present-cons : {A : Type 0} (o : Option A) (l m : List (Option A)) → present l ≡ present m → present (o ∷ l) ≡ present (o ∷ m)
-present-cons none l m e = e
-present-cons (some a) l m e = ap (λ k. a ∷ k) e
+present-most : {A : Type 0} (l : List (Option A)) → length (present l) ≤ length l
+present-most [] = omega arith
+present-most (none ∷ l) = omega (arith, present-most l)
+present-most (some a ∷ l) = omega (arith, present-most l)
 
-is-there : (o : Option Text) → true ≡ isThere o → (t : Text) × (o ≡ some t)
-is-there none e = absurd (true≢false e)
-is-there (some t) e = (t, refl)
+taken-most : {A : Type 0} (f : ℕ → Option A) (l : List ℕ) (i : ℕ) → length (map f (take i l)) ≤ i
+taken-most f l zero = omega arith
+taken-most f [] (suc i) = omega arith
+taken-most f (x ∷ l) (suc i) = omega (arith, taken-most f l i)
 
-is-missing : (o : Option Text) → false ≡ isThere o → o ≡ none
-is-missing none e = refl
-is-missing (some t) e = absurd (true≢false (sym e))
+-- ---- The base types among the first candidates
 
--- The turns of a scan, where f says a candidate's name.
-module _ (f : ℕ → Option Text) where
-  -- The names, cut at candidate i.
-  names-cut : (i k : ℕ) → firstNames f (i + suc k) ≡ firstNames f i ++ present (f i ∷ tabulate f (i + 1) k)
-  unfolding tabulate
-  names-cut i k =
-      let z : 0 + i ≡ i = omega arith in
-      ap present (tabulate-split f 0 i (suc k)) ∙ present-append (tabulate f 0 i) (tabulate f (0 + i) (suc k))
-      ∙ ap (λ (j : ℕ). firstNames f i ++ present (f j ∷ tabulate f (j + 1) k)) z
+module _ (v : View) (c : ℕ) where
+  pub among-none : 0 ≡ length (basesAmong v c 0)
+  unfolding basesAmong
+  among-none = refl
 
-  pub none-named : 0 ≡ length (firstNames f 0)
-  unfolding tabulate
-  none-named = refl
+  pub among-most : (i : ℕ) → length (basesAmong v c i) ≤ i
+  unfolding basesAmong
+  among-most i =
+      let a = present-most (map (typeNameIn v c) (take i (candidates v c))) in
+      let b = taken-most (typeNameIn v c) (candidates v c) i in
+      omega arith
 
-  -- Candidates without a name add nothing.
-  none-present : (j d : ℕ) → ((i : ℕ) → j ≤ i → i < j + d → f i ≡ none) → present (tabulate f j d) ≡ []
-  unfolding tabulate
-  none-present j zero h = refl
-  none-present j (suc d) h = rw (h j (omega arith) (omega arith)) (none-present (j + 1) d (λ i l m. h i (omega arith) (omega arith)))
+  -- Past the last candidate all base types are among them.
+  pub among-all : (i : ℕ) → length (candidates v c) ≤ i → basesAmong v c i ≡ baseTypes v c
+  unfolding basesAmong candidates baseTypes
+  among-all i h = ap (λ l. present (map (typeNameIn v c) l)) (take-all i (candidates v c) h)
 
-  names-skip : (i d : ℕ) → ((j : ℕ) → i ≤ j → j < i + d → f j ≡ none) → firstNames f (i + d) ≡ firstNames f i
-  names-skip i d h =
-      let z : 0 + i ≡ i = omega arith in
-      ap present (tabulate-split f 0 i d) ∙ present-append (tabulate f 0 i) (tabulate f (0 + i) d)
-      ∙ ap (λ (l : List Text). firstNames f i ++ l) (ap (λ (j : ℕ). present (tabulate f j d)) z ∙ none-present i d h)
-      ∙ append-nil (firstNames f i)
+  -- One candidate more, by its name.
+  module _ (i : ℕ) {x : ℕ} (at : getElem? (candidates v c) i ≡ some x) where
+    among-more : basesAmong v c (i + 1) ≡ basesAmong v c i ++ present (typeNameIn v c x ∷ [])
+    unfolding basesAmong
+    among-more =
+        rw (add-one i) (ap (λ l. present (map (typeNameIn v c) l)) (item-take (candidates v c) i at)
+        ∙ named-append (typeNameIn v c) (take i (candidates v c)) (x ∷ []))
 
-  module _ (i : ℕ) {seen : ℕ} (s : seen ≡ length (firstNames f i)) where
-    pub name-met : true ≡ isThere (f i) → seen + 1 ≡ length (firstNames f (i + 1))
-    unfolding tabulate
-    name-met there =
-        let name = is-there (f i) there in
-        ap (λ (n : ℕ). n + 1) s
-        ∙ sym (ap length (names-cut i 0 ∙ ap (λ o. firstNames f i ++ present (o ∷ [])) (name .1)) ∙ length-append (firstNames f i) (name .0 ∷ []))
+    pub among-missing : typeNameIn v c x ≡ none → length (basesAmong v c i) ≡ length (basesAmong v c (i + 1))
+    among-missing e =
+        sym (ap length (among-more ∙ ap (λ o. basesAmong v c i ++ present (o ∷ [])) e ∙ append-nil (basesAmong v c i)))
 
-    pub name-passed : false ≡ isThere (f i) → seen ≡ length (firstNames f (i + 1))
-    unfolding tabulate
-    name-passed gone =
-        s
-        ∙ sym (ap length (names-cut i 0 ∙ ap (λ o. firstNames f i ++ present (o ∷ [])) (is-missing (f i) gone) ∙ append-nil (firstNames f i)))
+    module _ {t : Text} (e : typeNameIn v c x ≡ some t) where
+      pub among-named : length (basesAmong v c i) + 1 ≡ length (basesAmong v c (i + 1))
+      among-named =
+          sym (ap length (among-more ∙ ap (λ o. basesAmong v c i ++ present (o ∷ [])) e) ∙ length-append (basesAmong v c i) (t ∷ []))
 
-    name-found : (n nth : ℕ) {t : Text} → i < n → f i ≡ some t → seen ≡ nth → getElem? (firstNames f n) nth ≡ some t
-    name-found n nth {t} h e q =
-        let k : n ≡ i + suc (n - i - 1) = omega arith in
-        let at : nth ≡ length (firstNames f i) = sym q ∙ s in
-        let is : firstNames f n ≡ firstNames f i ++ t ∷ present (tabulate f (i + 1) (n - i - 1)) =
-        ap (firstNames f) k ∙ names-cut i (n - i - 1) ∙ ap (λ o. firstNames f i ++ present (o ∷ tabulate f (i + 1) (n - i - 1))) e in
-        rw (is, at) (item-seam (firstNames f i) t (present (tabulate f (i + 1) (n - i - 1))))
+      pub among-item : getElem? (baseTypes v c) (length (basesAmong v c i)) ≡ some t
+      unfolding basesAmong candidates baseTypes
+      among-item =
+          let rest = drop (suc i) (candidates v c) in
+          let f = typeNameIn v c in
+          let is : baseTypes v c ≡ basesAmong v c i ++ t ∷ present (map f rest) =
+          ap (λ l. present (map f l)) (item-cut (candidates v c) i at)
+          ∙ named-append f (take i (candidates v c)) (x ∷ rest)
+          ∙ ap (λ o. basesAmong v c i ++ present (o ∷ map f rest)) e in
+          rw is (item-seam (basesAmong v c i) t (present (map f rest)))
 
--- ---- What a rendering says
-
-module _ {b b′ : List ℕ} {at : ℕ} {o : Option Text} where
-  pub there-some : {at′ : ℕ} → Said b at b′ o (some at′) → true ≡ isThere o
-  there-some s = rw (said-some s .is) refl
-
-  pub there-none : Said b at b′ o none → false ≡ isThere o
-  there-none s = rw (said-none s .0) refl
-
--- From the buffer's start, a rendering reads of the buffer before only its length.
-kept-anew : {b b₁ b₂ : List ℕ} → length b₁ ≡ length b → Kept b₁ 0 b₂ → Kept b 0 b₂
-kept-anew e k = record { long = k .long ∙ e; kept = λ i l. absurd (omega arith) }
-
-said-anew : {b b₁ b₂ : List ℕ} {o : Option Text} {p : Option ℕ} → length b₁ ≡ length b → Said b₁ 0 b₂ o p → Said b 0 b₂ o p
-said-anew e (missing k) = missing (kept-anew e k)
-said-anew {b} e (written {t} {at′} w) =
-    written {t = t} {at′ = at′} (record { keeps = kept-anew e (w .keeps); place = omega (arith, w .place); text = λ h. w .text (omega arith) })
-
--- ---- The candidates of a class
-
--- The candidate after one.
-pub next-first : (first i : ℕ) → i ≡ 0 → first + 1 ≡ nextCandidate first i
-next-first first i e = rw (eq-eqb i 0 e)
-
-pub next-row : (first i : ℕ) → (i ≡ 0 → ⊥) → i + 1 ≡ nextCandidate first i
-next-row first i n = rw (ne-eqb i 0 n)
-
-pub next-bounds : (first i n : ℕ) {j : ℕ} → first + 1 ≤ n → i < n → j ≡ nextCandidate first i → (i < j) × (j ≤ n)
-next-bounds first i n {j} f h e =
-    ⊎-elim (λ z. let k : j ≡ first + 1 = e ∙ sym (next-first first i z) in (omega arith, omega arith))
-    (λ z. let k : j ≡ i + 1 = e ∙ sym (next-row first i (λ q. omega arith)) in (omega arith, omega arith)) (eq-zero-or-pos i)
-
--- The names of the rows of a key are those of all rows, where a row of another key has none.
-module _ (key value : List ℕ → ℕ) (row : ℕ → List ℕ) (k : ℕ) (name : ℕ → Option Text) (f : ℕ → Option Text)
-    (is : (i : ℕ) → f (suc i) ≡ cond (eqb (key (row i)) k) (name (value (row i))) none) where
-  more : (x : Bool) (l : List ℕ) (w : ℕ) → present (map name (cond x (l ++ w ∷ []) l)) ≡ present (map name l) ++ present (cond x (name w) none ∷ [])
-  more true l w = ap present (map-append name l (w ∷ [])) ∙ present-append (map name l) (name w ∷ [])
-  more false l w = sym (append-nil (present (map name l)))
-
-  named-rows : (n : ℕ) → present (map name (ofKey key value row n k)) ≡ present (tabulate f 1 n)
-  unfolding tabulate
-  named-rows zero = refl
-  named-rows (suc n) =
-      let a : suc n ≡ n + 1 = omega arith in
-      let b : 1 + n ≡ suc n = omega arith in
-      more (eqb (key (row n)) k) (ofKey key value row n k) (value (row n))
-      ∙ ap (λ l. l ++ present (cond (eqb (key (row n)) k) (name (value (row n))) none ∷ [])) (named-rows n)
-      ∙ ap (λ o. present (tabulate f 1 n) ++ present (o ∷ [])) (sym (is n) ∙ ap f (sym b))
-      ∙ sym (ap (λ (m : ℕ). present (tabulate f 1 m)) a ∙ ap present (tabulate-split f 1 n 1) ∙ present-append (tabulate f 1 n) (tabulate f (1 + n) 1))
+-- ---- The candidates by their rows
 
 module _ {t l : List ℕ} (laid : Laid t l) (strings blob : List ℕ) (r : ℕ) (low : 1 < r) where
   abbrev v : View
   v = viewIn t l strings blob
-
-  abbrev named : ℕ → Option Text
-  named = candidate t l strings blob r
 
   -- The name behind an index, in a row of the class, as a signature has it.
   pub type-name : (k i : ℕ) → k ≡ 2 * r
@@ -184,84 +138,158 @@ module _ {t l : List ℕ} (laid : Laid t l) (strings blob : List ℕ) (r : ℕ) 
       (class-row (optionsIn l) t strings blob (r - 2) (omega (arith, classes-are laid strings blob columns.typeName (omega arith) refl)))
       ∙ ap (cell t l columns.extends) c
 
-  implemented : present (map (typeNameIn v (r - 2)) (v .interfaces r)) ≡ present (tabulate named 1 (rowsAt l columns.implClass))
-  unfolding viewOf candidate
-  implemented =
-      let w = sizesIn (optionsIn l) (headerIn t l) in
-      rw (rows-at laid columns.implClass (omega arith))
-      (named-rows (implClass w) (implInterface w) (sideRow (optionsIn l) (headerIn t l) t interfaceImpl) r (typeNameIn v (r - 2))
-      named (λ i. refl) _)
+  pub candidate-extended : (i : ℕ) {p x : ℕ} → r ≤ rowsAt l columns.typeName → i ≡ 0 → p ≡ r - 1 → x ≡ cell t l columns.extends p
+      → CandidateIs t l strings blob r i (Index x 0)
+  unfolding candidates
+  candidate-extended i {p} h z e f = rw z (index {after = 0} (ap some (extended h ∙ sym (f ∙ ap (cell t l columns.extends) e))) (omega arith) (keyed-none _ _))
 
-  bases-are : r ≤ rowsAt l columns.typeName → baseTypes v (r - 2) ≡ firstNames named (rowsAt l columns.implClass + 1)
-  unfolding baseTypes tabulate candidate
-  bases-are h =
+  -- The interfaces of the class by its row.
+  interface-item : (j : ℕ) → getElem? (candidates v (r - 2)) (suc j) ≡ getElem? (v .interfaces r) j
+  unfolding candidates
+  interface-item j = let c : r - 2 + 2 ≡ r = omega arith in ap (λ (k : ℕ). getElem? (v .interfaces k) j) c
+
+  module _ (i : ℕ) {key nth : ℕ} (found : Row) (z : i ≡ 0 → ⊥) (k : key ≡ r) (q : nth ≡ i - 1)
+      (f : FoundIs (cell t l columns.implClass) key (rowsAt l columns.implClass) nth found) where
+    finds : FoundIs (cell t l columns.implClass) r (rowsAt l columns.implClass) (i - 1) found
+    finds = rw (k, q) at f
+
+    pub candidate-own : (j : ℕ) {x : ℕ} → found ≡ At j → x ≡ cell t l columns.implInterface j → CandidateIs t l strings blob r i (Index x (j + 1))
+    candidate-own j e g =
+        let one : i ≡ suc (i - 1) = omega arith in
+        let sum : i ≡ i - 1 + 1 = omega arith in
+        let item = interfaces-found laid strings blob r (i - 1) j finds e in
+        index {after = j + 1} (ap (getElem? (candidates v (r - 2))) one ∙ interface-item (i - 1) ∙ item .2 ∙ ap some (sym g)) (omega (arith, item .0)) (sum ∙ interfaces-passed laid strings blob r (i - 1) j finds e)
+
+    pub candidate-past : found ≡ NoRow → CandidateIs t l strings blob r i NoCandidate
+    candidate-past e =
+        let one : i ≡ suc (i - 1) = omega arith in
+        past (ap (getElem? (candidates v (r - 2))) one ∙ interface-item (i - 1) ∙ interfaces-missed laid strings blob r (i - 1) finds e)
+
+  pub candidates-most : length (candidates v (r - 2)) ≤ rowsAt l columns.implClass + 1
+  unfolding candidates
+  candidates-most =
       let c : r - 2 + 2 ≡ r = omega arith in
-      let name = typeNameIn v (r - 2) in
-      ap (λ (e : ℕ). present (name e ∷ map name (v .interfaces (r - 2 + 2)))) (extended h)
-      ∙ ap (λ (k : ℕ). present (name (cell t l columns.extends (r - 1)) ∷ map name (v .interfaces k))) c
-      ∙ present-cons (name (cell t l columns.extends (r - 1))) (map name (v .interfaces r)) (tabulate named 1 (rowsAt l columns.implClass)) implemented
-      ∙ sym (ap (firstNames named) (add-one (rowsAt l columns.implClass)))
+      let n : length (v .interfaces (r - 2 + 2)) ≡ keyed (cell t l columns.implClass) r (rowsAt l columns.implClass) =
+      ap (λ (k : ℕ). length (v .interfaces k)) c ∙ interfaces-count laid strings blob r in
+      omega (arith, keyed-at-most (cell t l columns.implClass) r (rowsAt l columns.implClass))
 
-  -- Of rows that are not the class's own no candidate has a name.
-  other-row : (i : ℕ) → cell t l columns.implClass i ≢ r → named (suc i) ≡ none
-  unfolding candidate
-  other-row i n = rw (ne-eqb (cell t l columns.implClass i) r n)
+  pub bases-most : length (baseTypes v (r - 2)) ≤ rowsAt l columns.implClass + 1
+  bases-most =
+      let n = rowsAt l columns.implClass + 1 in
+      subst (λ (bases : List Text). length bases ≤ n) (among-all v (r - 2) n candidates-most) (among-most v (r - 2) n)
 
-  unnamed : (j : ℕ) → 0 < j → cell t l columns.implClass (j - 1) ≢ r → named j ≡ none
-  unnamed j z n = let one : j ≡ suc (j - 1) = omega arith in ap named one ∙ other-row (j - 1) n
+  -- Past all of them none is found.
+  pub never-found : {b b′ : List ℕ} {at : ℕ} (nth : ℕ) (p : Place) → rowsAt l columns.implClass + 1 ≤ nth
+      → Said b at b′ (getElem? (baseTypes v (r - 2)) nth) (placeSays p) → p ≡ Missing
+  never-found nth Missing h s = refl
+  never-found nth (Next at) h s =
+      absurd (Option·none-ne-some _ (sym (item-past (baseTypes v (r - 2)) nth (omega (arith, bases-most))) ∙ said-some s .is))
 
-  -- The rows of InterfaceImpl among which are all of the class's own.
-  module _ {k first end : ℕ} (key : k ≡ r) (o : OnlyIn (cell t l columns.implClass) k (rowsAt l columns.implClass) first end) where
-    pub own-next : (i : ℕ) {j seen : ℕ} → j ≡ nextCandidate first i → seen ≡ length (firstNames named (i + 1)) → seen ≡ length (firstNames named j)
-    own-next i {j} {seen} e s = ⊎-elim start on (eq-zero-or-pos i)
-      where
-        start : i ≡ 0 → seen ≡ length (firstNames named j)
-        start z =
-            let two : j ≡ i + 1 + first = e ∙ rw (eq-eqb i 0 z) (omega arith) in
-            s ∙ ap length (sym (names-skip named (i + 1) first (λ x lo hi. unnamed x (omega arith) (λ q. o .before (x - 1) (omega arith) (q ∙ sym key)))) ∙ ap (firstNames named) (sym two))
+-- What a candidate that was matched says.
+module _ {t l strings blob : List ℕ} {r i : ℕ} where
+  pub candidate-index : {x after : ℕ} → CandidateIs t l strings blob r i (Index x after)
+      → (getElem? (candidates (viewIn t l strings blob) (r - 2)) i ≡ some x)
+      × (after ≤ rowsAt l columns.implClass)
+      × (i ≡ keyed (cell t l columns.implClass) r after)
+  candidate-index (index e a k) = (e, a, k)
 
-        on : 0 < i → seen ≡ length (firstNames named j)
-        on z = let one : j ≡ i + 1 = e ∙ rw (ne-eqb i 0 (λ q. omega arith)) in s ∙ ap (λ (x : ℕ). length (firstNames named x)) (sym one)
+  pub candidate-none : CandidateIs t l strings blob r i NoCandidate → getElem? (candidates (viewIn t l strings blob) (r - 2)) i ≡ none
+  candidate-none (past e) = e
 
-    pub own-all : {i seen : ℕ} → i ≡ end + 1 → seen ≡ length (firstNames named i) → seen ≡ length (firstNames named (rowsAt l columns.implClass + 1))
-    own-all {i} e s =
-        let all : i + (rowsAt l columns.implClass - end) ≡ rowsAt l columns.implClass + 1 = omega (arith, o .within) in
-        s ∙ ap length (sym (names-skip named i (rowsAt l columns.implClass - end) (λ x lo hi. unnamed x (omega arith) (λ q. o .behind (x - 1) (omega arith) (omega (arith, o .within)) (q ∙ sym key)))) ∙ ap (firstNames named) all)
+-- ---- The search for a base type
 
-  -- What rendering a candidate comes to: number 0 is the extended type, and the others are rows of InterfaceImpl.
-  module _ (i : ℕ) {b : List ℕ} where
-    pub said-extended : (p : ℕ) {x : ℕ} {b′ : List ℕ} {o : Option ℕ} → i ≡ 0 → p ≡ r - 1 → x ≡ cell t l columns.extends p
-        → Said b 0 b′ (typeNameIn v (r - 2) x) o → Said b 0 b′ (named i) o
-    unfolding candidate
-    said-extended p z e f s = rw (z, ← e, ← f) s
+-- Of the class at TypeDef row r, i candidates have been tried and so many base types seen; the next candidate is looked for from a
+-- place of InterfaceImpl on. From the buffer b₀ to b nothing before the place `at` changed.
+pub record Searching (t l strings blob : List ℕ) (r nth : ℕ) (b₀ : List ℕ) (at : ℕ) (b : List ℕ) (i seen from passed : ℕ) : Type 0 where
+  pub counted : seen ≡ length (basesAmong (viewIn t l strings blob) (r - 2) i)
+  pub few : seen ≤ nth
+  pub within : from ≤ rowsAt l columns.implClass
+  pub own : passed ≡ keyed (cell t l columns.implClass) r from
+  pub less : passed ≤ i - 1
+  pub keeps : Kept b₀ at b
 
-    module _ {x : ℕ} (z : i ≡ 0 → ⊥) (f : x ≡ cell t l columns.implClass (i - 1)) where
-      pub said-other : (x ≡ r → ⊥) → Said b 0 b (named i) none
-      unfolding candidate
-      said-other n =
-          let one : i ≡ suc (i - 1) = omega arith in
-          rw (one, ← f, ne-eqb x r n) (missing (kept-same b 0))
+-- What is known of a class, by its row as a number.
+pub knows-none : (v : View) (row : ℕ) → KnowsBases v (record { row = row; seen = 0; tried = 0 })
+knows-none v row = record { counted = λ _. among-none v (row - 2) }
 
-      pub said-interface : {y : ℕ} {b′ : List ℕ} {o : Option ℕ} → x ≡ r → y ≡ cell t l columns.implInterface (i - 1)
-          → Said b 0 b′ (typeNameIn v (r - 2) y) o → Said b 0 b′ (named i) o
-      unfolding candidate
-      said-interface e g s =
-          let one : i ≡ suc (i - 1) = omega arith in
-          rw (one, ← f, eq-eqb x r e, ← g) s
+knows-so-many : (v : View) (key r seen tried : ℕ) → key ≡ r → seen ≡ length (basesAmong v (r - 2) tried)
+    → KnowsBases v (record { row = key; seen = seen; tried = tried })
+knows-so-many v key r seen tried e s = rw e (record { counted = λ _. s })
 
-  -- A scan that has passed i of n candidates, all that there are, and seen so many names.
-  module _ (h : r ≤ rowsAt l columns.typeName) (n i : ℕ) (all : n ≡ rowsAt l columns.implClass + 1) {seen : ℕ} (s : seen ≡ length (firstNames named i)) where
-    pub bases-counted : i ≡ n → seen ≡ length (baseTypes v (r - 2))
-    bases-counted e = rw (bases-are h, ← all, ← e) s
+module _ {t l strings blob : List ℕ} {r nth : ℕ} {b₀ : List ℕ} {at : ℕ} where
+  pub search-start : (k : Bases) {key : ℕ} → 1 < r → KnowsBases (viewIn t l strings blob) k → k .row ≡ key → key ≡ r → k .seen ≤ nth
+      → Searching t l strings blob r nth b₀ at b₀ (k .tried) (k .seen) 0 0
+  search-start k {key} low knows e f few =
+      let row : k .row ≡ r = e ∙ f in
+      record {
+        counted = subst (λ (m : ℕ). k .seen ≡ length (basesAmong (viewIn t l strings blob) (m - 2) (k .tried))) row (knows .counted (omega arith));
+        few = few;
+        within = omega arith;
+        own = keyed-none _ _;
+        less = omega arith;
+        keeps = kept-same b₀ at;
+      }
 
-    module _ (nth : ℕ) {b b₁ : List ℕ} where
-      pub base-found : {b₂ : List ℕ} {at : ℕ} → length b₁ ≡ length b → i < n → seen ≡ nth → Said b₁ 0 b₂ (named i) (some at)
-          → Said b 0 b₂ (getElem? (baseTypes v (r - 2)) nth) (some at)
-      base-found same lt q said =
+  module _ {b : List ℕ} {i seen from passed : ℕ} (s : Searching t l strings blob r nth b₀ at b i seen from passed) where
+    pub search-seen : seen ≤ i
+    search-seen = omega (arith, s .counted, among-most (viewIn t l strings blob) (r - 2) i)
+
+    -- A candidate has been rendered.
+    module _ {b′ : List ℕ} {x after : ℕ} (c : CandidateIs t l strings blob r i (Index x after)) where
+      pub search-more : {at′ : ℕ} → (seen ≡ nth → ⊥) → Said b at b′ (typeNameIn (viewIn t l strings blob) (r - 2) x) (some at′)
+          → Searching t l strings blob r nth b₀ at b′ (i + 1) (seen + 1) after i
+      search-more n said =
+          let is = candidate-index c in
           let name = said-some said in
-          rw (bases-are h, ← all, name-found named i s n nth lt (name .is) q, ← (name .is)) (said-anew same said)
+          record {
+            counted = ap (λ (m : ℕ). m + 1) (s .counted) ∙ among-named (viewIn t l strings blob) (r - 2) i (is .0) (name .is);
+            few = omega (arith, s .few);
+            within = is .1;
+            own = is .2;
+            less = omega arith;
+            keeps = kept-then (s .keeps) (name .wrote .keeps);
+          }
 
-      pub base-past : length b₁ ≡ length b → i ≡ n → seen ≤ nth → Said b 0 b₁ (getElem? (baseTypes v (r - 2)) nth) none
-      base-past same e le =
-          let past : length (baseTypes v (r - 2)) ≤ nth = rw (← (bases-counted e)) le in
-          rw (item-past (baseTypes v (r - 2)) nth past) (missing (kept-anew same (kept-same b₁ 0)))
+      pub search-on : Said b at b′ (typeNameIn (viewIn t l strings blob) (r - 2) x) none → Searching t l strings blob r nth b₀ at b′ (i + 1) seen after i
+      search-on said =
+          let is = candidate-index c in
+          let gone = said-none said in
+          record {
+            counted = s .counted ∙ among-missing (viewIn t l strings blob) (r - 2) i (is .0) (gone .0);
+            few = s .few;
+            within = is .1;
+            own = is .2;
+            less = omega arith;
+            keeps = kept-then (s .keeps) (gone .1);
+          }
+
+      -- The one that was looked for.
+      pub search-found : {at′ key : ℕ} → key ≡ r → seen ≡ nth → Said b at b′ (typeNameIn (viewIn t l strings blob) (r - 2) x) (some at′)
+          → Said b₀ at b′ (getElem? (baseTypes (viewIn t l strings blob) (r - 2)) nth) (some at′) × KnowsBases (viewIn t l strings blob) (record { row = key; seen = seen + 1; tried = i + 1 })
+      search-found {at′} {key} k q said =
+          let is = candidate-index c in
+          let name = said-some said in
+          let item : getElem? (baseTypes (viewIn t l strings blob) (r - 2)) nth ≡ some (name .text) =
+          ap (getElem? (baseTypes (viewIn t l strings blob) (r - 2))) (sym q ∙ s .counted) ∙ among-item (viewIn t l strings blob) (r - 2) i (is .0) (name .is) in (
+            rw item (written (wrote-anew (s .keeps) (name .wrote))),
+            knows-so-many (viewIn t l strings blob) key r (seen + 1) (i + 1) k
+                (ap (λ (m : ℕ). m + 1) (s .counted) ∙ among-named (viewIn t l strings blob) (r - 2) i (is .0) (name .is)),
+          )
+
+    -- All candidates have been tried.
+    pub search-over : {key : ℕ} → key ≡ r → length (candidates (viewIn t l strings blob) (r - 2)) ≤ i
+        → Said b₀ at b (getElem? (baseTypes (viewIn t l strings blob) (r - 2)) nth) none
+        × KnowsBases (viewIn t l strings blob) (record { row = key; seen = seen; tried = i })
+        × (seen ≡ length (baseTypes (viewIn t l strings blob) (r - 2)))
+    search-over {key} k h =
+        let all : seen ≡ length (baseTypes (viewIn t l strings blob) (r - 2)) = s .counted ∙ ap length (among-all (viewIn t l strings blob) (r - 2) i h) in (
+          rw (item-past (baseTypes (viewIn t l strings blob) (r - 2)) nth (omega (arith, s .few))) (missing (s .keeps)),
+          knows-so-many (viewIn t l strings blob) key r seen i k (s .counted),
+          all,
+        )
+
+    pub search-past : {key : ℕ} → key ≡ r → CandidateIs t l strings blob r i NoCandidate
+        → Said b₀ at b (getElem? (baseTypes (viewIn t l strings blob) (r - 2)) nth) none
+        × KnowsBases (viewIn t l strings blob) (record { row = key; seen = seen; tried = i })
+        × (seen ≡ length (baseTypes (viewIn t l strings blob) (r - 2)))
+    search-past k c = search-over k (item-none (candidates (viewIn t l strings blob) (r - 2)) i (candidate-none c))

@@ -1,31 +1,38 @@
--- The candidates for the base types of a class, by the rows that they come from (ECMA-335 II.22.37, II.22.23; `finalize`).
-use mathlib.Core.Bool.{Bool, true, false, cond}
-use mathlib.Core.List.{List}
-use mathlib.Core.Option.{Option, none, some}
-use Prim.Native.Nat.{ℕ, zero, suc, _+_, _-_}
-use lib.Dec.{eqb}
-use Rattle.numbers.specs.Lists.{tabulate}
+-- The candidates for the base types of a class (ECMA-335 II.22.37, II.22.23; `finalize`): TypeDefOrRef indices, of which those with a name
+-- are its base types.
+use mathlib.Core.Path.{_≡_}
+use mathlib.Core.List.{List, _∷_, map}
+use mathlib.Core.Option.{none, some}
+use Prim.Native.Nat.{ℕ, _-_, _<_, _≤_}
+use lib.ListN.{length, getElem?, take}
 use Rattle.buffers.specs.Texts.{Text}
 use Rattle.record.specs.Missing.{present}
-use Rattle.record.specs.Names.{typeNameIn}
+use Rattle.record.specs.Columns.{extends}
+use Rattle.record.specs.View.{View}
+use Rattle.record.specs.Names.{numberIn, classRow, classIndex, typeNameIn}
 use Rattle.rows.specs.Columns as columns
-use Rattle.rows.specs.Layout.{cell, viewIn}
+use Rattle.rows.specs.Layout.{cell, rowsAt, viewIn}
+use Rattle.keys.specs.Keyed.{keyed}
+use Rattle.bases.specs.declared.Candidate.{Candidate}
+use Rattle.bases.specs.declared.Candidate.the-variants.{Index, NoCandidate}
+use Rattle.bases.specs.declared.Bases.{Bases}
 
--- The name of candidate i of the class at TypeDef row r, from 1: candidate 0 is the row's Extends column, and candidate i + 1 the
--- Interface column of row i, from 0, of InterfaceImpl, if its Class column is r.
-unfoldable pub candidate : List ℕ → List ℕ → List ℕ → List ℕ → ℕ → ℕ → Option Text
-candidate t l strings blob r zero = typeNameIn (viewIn t l strings blob) (r - 2) (cell t l columns.extends (r - 1))
-candidate t l strings blob r (suc i) = cond (eqb (cell t l columns.implClass i) r) (typeNameIn (viewIn t l strings blob) (r - 2) (cell t l columns.implInterface i)) none
+-- The Extends column of class c, and then the Interface columns of its rows of InterfaceImpl.
+unfoldable pub candidates : View → ℕ → List ℕ
+candidates v c = numberIn v extends (classRow v c) ∷ v .interfaces (classIndex c)
 
--- The candidate that is tried after candidate i, where no row before the first is the class's own.
-abbrev pub nextCandidate : ℕ → ℕ → ℕ
-nextCandidate first i = cond (eqb i 0) (first + 1) (i + 1)
+-- The base types among the first n of them.
+unfoldable pub basesAmong : View → ℕ → ℕ → List Text
+basesAmong v c n = present (map (typeNameIn v c) (take n (candidates v c)))
 
--- Whether a name is there.
-abbrev pub isThere : Option Text → Bool
-isThere none = false
-isThere (some t) = true
+-- What is known of a class's base types is true of the view; of row 0 it says nothing.
+pub record KnowsBases (v : View) (k : Bases) : Type 0 where
+  pub counted : 0 < k .row → k .seen ≡ length (basesAmong v (k .row - 2) (k .tried))
 
--- The names of the first n candidates, where f says a candidate's name.
-abbrev pub firstNames : (ℕ → Option Text) → ℕ → List Text
-firstNames f n = present (tabulate f 0 n)
+-- r is candidate i of the class at TypeDef row `row`, and a place of InterfaceImpl before which i rows are the class's own; or there is
+-- no such candidate.
+pub data CandidateIs (t l strings blob : List ℕ) (row i : ℕ) : Candidate → Type 0 where
+  index : {x after : ℕ} → getElem? (candidates (viewIn t l strings blob) (row - 2)) i ≡ some x
+      → after ≤ rowsAt l columns.implClass → i ≡ keyed (cell t l columns.implClass) row after
+      → CandidateIs t l strings blob row i (Index x after)
+  past : getElem? (candidates (viewIn t l strings blob) (row - 2)) i ≡ none → CandidateIs t l strings blob row i NoCandidate

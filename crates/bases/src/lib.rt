@@ -1,37 +1,118 @@
 // The base types of a class: its Extends column (ECMA-335 II.22.37) and the rows of InterfaceImpl (II.22.23) that are its own, without
-// those whose type has no name. Which have one is known only by rendering them, so a search renders each into the lent buffer.
+// those whose type has no name. Which have one is known only by rendering them; so what has been seen of a class is handed on, and a
+// search that goes in order renders each candidate once.
 use buffers::Place;
 use classes::TypeDefRow;
+use keys::Row;
 use numbers::wide;
 use rows::Layout;
 use rows::columns;
 use sig_leaves::LEVELS;
 use sig_leaves::Owner;
 ghost use mathlib.Core.Path.{_≡_};
-ghost use Prim.Native.Nat.{_+_, _-_, _<_, _≤_};
+ghost use mathlib.Core.List.{List};
+ghost use Prim.Native.Nat.{ℕ, _-_, _<_, _≤_};
 ghost use lib.ListN.{length, getElem?};
 ghost use Rattle.buffers.specs.Writes.{Said, placeSays};
+ghost use Rattle.buffers.specs.declared.Place.the-variants.{Missing};
 ghost use Rattle.classes.specs.Numbering.{classOf};
+ghost use Rattle.record.specs.View.{View};
 ghost use Rattle.record.specs.Names.{typeNameIn, baseTypes};
 ghost use Rattle.rows.specs.Columns as columns;
-ghost use Rattle.rows.specs.Layout.{Laid, rowsAt, viewIn};
-ghost use Rattle.bases.specs.Candidates.{candidate, nextCandidate, isThere};
+ghost use Rattle.rows.specs.Layout.{Laid, rowsAt, cell, viewIn};
+ghost use Rattle.keys.specs.Keyed.{keyed};
+ghost use Rattle.bases.specs.Candidates.{KnowsBases, CandidateIs};
 
-// The number of the candidate after i: number 0 is the extended type, and number i + 1 is row i of InterfaceImpl. No row before the first
-// is the class's own.
-fn next_candidate(i: usize, first: usize) -> usize
-    requires { ⌜ (i < 4294967296) × (first < 4294967296) ⌝ }
-    ensures { λ r. ⌜ r ≡ nextCandidate first i ⌝ }
-{
-    if i == 0 {
-        return first + 1;
-    }
-    i + 1
+// More base types than any class has.
+const NEVER: usize = 0xFFFF_FFFF_FFFF;
+
+// What is known of the base types of the class at a TypeDef row: how many have been seen, and among how many candidates. Row 0 is none.
+pub struct Bases {
+    pub row: usize,
+    pub seen: usize,
+    pub tried: usize,
 }
 
-// Write the name behind a TypeDefOrRef index that stands in a row of a class.
-fn render_type(
+// What the search for a base type came to, and what is known after it.
+pub struct Based {
+    pub place: Place,
+    pub bases: Bases,
+}
+
+// A candidate as a TypeDefOrRef index, and the place of InterfaceImpl behind its row.
+pub enum Candidate {
+    Index(u32, usize),
+    NoCandidate,
+}
+
+// Nothing is known.
+pub fn no_bases() -> Bases
+    ensures { λ r. ⌜ ((v : View) → KnowsBases v r) ⌝ }
+{
+    Bases {
+        row: 0,
+        seen: 0,
+        tried: 0,
+    }
+}
+
+// What is known of a class up to its base type nth: what is handed on, if it is about the class and not past that; else nothing.
+fn bases_before(row: usize, nth: usize, known: Bases) -> Bases
+    ensures { λ r. ⌜ ((v : View) → KnowsBases v known → KnowsBases v r) × (r .row ≡ row) × (r .seen ≤ nth) ⌝ }
+{
+    if known.row == row {
+        if known.seen <= nth {
+            return known;
+        }
+    }
+    Bases {
+        row,
+        seen: 0,
+        tried: 0,
+    }
+}
+
+// Candidate i of a class, by a place of InterfaceImpl before which so many rows are the class's own.
+fn candidate_at(
+    tables: &[u8],
+    layout: &Layout,
+    row: TypeDefRow,
+    i: usize,
+    from: usize,
+    passed: usize,
+) -> Candidate
+    requires { ⌜ Laid (now tables) (now layout) ⌝ }
+    requires { ⌜ (1 < row .0) × (row .0 ≤ rowsAt (now layout) columns.typeName) ⌝ }
+    requires { ⌜ (from ≤ rowsAt (now layout) columns.implClass) × (passed ≡ keyed (cell (now tables) (now layout) columns.implClass) (row .0) from) × (passed ≤ i - 1) ⌝ }
+    ensures { λ r.
+        ⌜ ((strings blob : List ℕ) → CandidateIs (now (tables .entry)) (now (layout .entry)) strings blob (row .0) i r) ⌝ }
+{
+    if i == 0 {
+        let place = wide(row.0) - 1;
+        let extended = rows::read_column(tables, layout, columns::EXTENDS, place);
+        return Candidate::Index(extended, 0);
+    }
+    match keys::find_key_from(
+        tables,
+        layout,
+        columns::IMPL_CLASS,
+        wide(row.0),
+        i - 1,
+        from,
+        passed,
+    ) {
+        Row::At(own) => {
+            let interface = rows::read_column(tables, layout, columns::IMPL_INTERFACE, own);
+            Candidate::Index(interface, own + 1)
+        }
+        Row::NoRow => Candidate::NoCandidate,
+    }
+}
+
+// Append the name behind a TypeDefOrRef index that stands in a row of a class.
+fn push_type(
     buf: &mut [u8],
+    at: usize,
     tables: &[u8],
     strings: &[u8],
     blob: &[u8],
@@ -42,12 +123,12 @@ fn render_type(
     requires { ⌜ Laid (now tables) (now layout) ⌝ }
     requires { ⌜ 1 < row .0 ⌝ }
     ensures { λ r. let v = viewIn (now (tables .entry)) (now (layout .entry)) (now (strings .entry)) (now (blob .entry)) in
-        ⌜ Said (now (buf .entry)) 0 (now (buf .exit)) (typeNameIn v (classOf row) index) (placeSays r) ⌝ }
+        ⌜ Said (now (buf .entry)) at (now (buf .exit)) (typeNameIn v (classOf row) index) (placeSays r) ⌝ }
 {
     let class = Owner::Of(2 * wide(row.0));
     signatures::get_type_fullname(
         buf,
-        0,
+        at,
         tables,
         strings,
         blob,
@@ -59,55 +140,81 @@ fn render_type(
     )
 }
 
-// Write the name of candidate i. A row of another class has none for this one.
-fn render_candidate(
+// Append the name of base type nth, from 0, of the class at a TypeDef row. If there is none, all have been seen.
+pub fn push_base(
     buf: &mut [u8],
+    at: usize,
     tables: &[u8],
     strings: &[u8],
     blob: &[u8],
     layout: &Layout,
     row: TypeDefRow,
-    i: usize,
-) -> Place
+    nth: usize,
+    known: Bases,
+) -> Based
     requires { ⌜ Laid (now tables) (now layout) ⌝ }
-    requires { ⌜ (1 < row .0) × (row .0 ≤ rowsAt (now layout) columns.typeName) × (i ≤ rowsAt (now layout) columns.implClass) ⌝ }
-    ensures { λ r.
-        ⌜ Said (now (buf .entry)) 0 (now (buf .exit))
-        (candidate (now (tables .entry)) (now (layout .entry)) (now (strings .entry)) (now (blob .entry)) (row .0) i) (placeSays r) ⌝ }
+    requires { ⌜ (1 < row .0) × (row .0 ≤ rowsAt (now layout) columns.typeName) ⌝ }
+    requires { ⌜ KnowsBases (viewIn (now tables) (now layout) (now strings) (now blob)) known ⌝ }
+    ensures { λ r. let v = viewIn (now (tables .entry)) (now (layout .entry)) (now (strings .entry)) (now (blob .entry)) in
+        ⌜ Said (now (buf .entry)) at (now (buf .exit)) (getElem? (baseTypes v (classOf row)) nth) (placeSays (r .place)) ×
+        KnowsBases v (r .bases) × (r .place ≡ Missing → r .bases .seen ≡ length (baseTypes v (classOf row))) ⌝ }
 {
-    if i == 0 {
-        let place = wide(row.0) - 1;
-        let extended = rows::read_column(tables, layout, columns::EXTENDS, place);
-        return render_type(buf, tables, strings, blob, layout, row, extended);
+    let key = wide(row.0);
+    let start = bases_before(key, nth, known);
+    let n = rows::count_rows(layout, columns::IMPL_CLASS);
+    let mut i = start.tried;
+    let mut seen = start.seen;
+    let mut from = 0;
+    let mut passed = 0;
+    while i <= n {
+        match candidate_at(tables, layout, row, i, from, passed) {
+            Candidate::Index(index, after) => {
+                from = after;
+                passed = i;
+                i += 1;
+                match push_type(buf, at, tables, strings, blob, layout, row, index) {
+                    Place::Next(end) => {
+                        if seen == nth {
+                            let bases = Bases {
+                                row: key,
+                                seen: seen + 1,
+                                tried: i,
+                            };
+                            return Based {
+                                place: Place::Next(end),
+                                bases,
+                            };
+                        }
+                        seen += 1;
+                    }
+                    Place::Missing => {}
+                }
+            }
+            Candidate::NoCandidate => {
+                let bases = Bases {
+                    row: key,
+                    seen,
+                    tried: i,
+                };
+                return Based {
+                    place: Place::Missing,
+                    bases,
+                };
+            }
+        }
     }
-    if rows::read_column(tables, layout, columns::IMPL_CLASS, i - 1) != row.0 {
-        return Place::Missing;
+    let bases = Bases {
+        row: key,
+        seen,
+        tried: i,
+    };
+    Based {
+        place: Place::Missing,
+        bases,
     }
-    let interface = rows::read_column(tables, layout, columns::IMPL_INTERFACE, i - 1);
-    render_type(buf, tables, strings, blob, layout, row, interface)
 }
 
-// Whether a candidate has a name. How long the name is does not matter here, so one byte of room will do.
-fn has_name(
-    tables: &[u8],
-    strings: &[u8],
-    blob: &[u8],
-    layout: &Layout,
-    row: TypeDefRow,
-    i: usize,
-) -> bool
-    requires { ⌜ Laid (now tables) (now layout) ⌝ }
-    requires { ⌜ (1 < row .0) × (row .0 ≤ rowsAt (now layout) columns.typeName) × (i ≤ rowsAt (now layout) columns.implClass) ⌝ }
-    ensures { λ r. ⌜ r ≡ isThere (candidate (now (tables .entry)) (now (layout .entry)) (now (strings .entry)) (now (blob .entry)) (row .0) i) ⌝ }
-{
-    let mut space = [0u8; 1];
-    match render_candidate(&mut space, tables, strings, blob, layout, row, i) {
-        Place::Next(_) => true,
-        Place::Missing => false,
-    }
-}
-
-// How many base types the class at a TypeDef row has.
+// How many base types the class at a TypeDef row has. How long their names are does not matter here, so one byte of room will do.
 pub fn count_bases(
     tables: &[u8],
     strings: &[u8],
@@ -120,53 +227,18 @@ pub fn count_bases(
     ensures { λ r. let v = viewIn (now (tables .entry)) (now (layout .entry)) (now (strings .entry)) (now (blob .entry)) in
         ⌜ r ≡ length (baseTypes v (classOf row)) ⌝ }
 {
-    let own = keys::key_rows(tables, layout, columns::IMPL_CLASS, wide(row.0));
-    let first = own.first;
-    let n = own.end + 1;
-    let mut i = 0;
-    let mut seen = 0;
-    while i < n {
-        let named = has_name(tables, strings, blob, layout, row, i);
-        i = next_candidate(i, first);
-        if named {
-            seen += 1;
-        }
-    }
-    seen
-}
-
-// Write the name of base type nth, from 0, of the class at a TypeDef row.
-pub fn render_base(
-    buf: &mut [u8],
-    tables: &[u8],
-    strings: &[u8],
-    blob: &[u8],
-    layout: &Layout,
-    row: TypeDefRow,
-    nth: usize,
-) -> Place
-    requires { ⌜ Laid (now tables) (now layout) ⌝ }
-    requires { ⌜ (1 < row .0) × (row .0 ≤ rowsAt (now layout) columns.typeName) ⌝ }
-    ensures { λ r. let v = viewIn (now (tables .entry)) (now (layout .entry)) (now (strings .entry)) (now (blob .entry)) in
-        ⌜ Said (now (buf .entry)) 0 (now (buf .exit)) (getElem? (baseTypes v (classOf row)) nth) (placeSays r) ⌝ }
-{
-    let own = keys::key_rows(tables, layout, columns::IMPL_CLASS, wide(row.0));
-    let first = own.first;
-    let n = own.end + 1;
-    let mut i = 0;
-    let mut seen = 0;
-    while i < n {
-        let at = i;
-        i = next_candidate(i, first);
-        match render_candidate(buf, tables, strings, blob, layout, row, at) {
-            Place::Next(end) => {
-                if seen == nth {
-                    return Place::Next(end);
-                }
-                seen += 1;
-            }
-            Place::Missing => {}
-        }
-    }
-    Place::Missing
+    let mut space = [0u8; 1];
+    let based = push_base(
+        &mut space,
+        0,
+        tables,
+        strings,
+        blob,
+        layout,
+        row,
+        NEVER,
+        no_bases(),
+    );
+    let bases = based.bases;
+    bases.seen
 }

@@ -16,7 +16,7 @@ use Rattle.buffers.specs.Texts.{Text}
 use Rattle.heaps.specs.Lookups.{string}
 use Rattle.tables.specs.Extents.{sizesIn}
 use Rattle.record.specs.Rows.{ofKey}
-use Rattle.record.specs.Columns.{column, genericName}
+use Rattle.record.specs.Columns.{column, genericName, implInterface}
 use Rattle.record.specs.View.{viewOf, sideRow, sideRows}
 use Rattle.record.proofs.Keyed.{cut}
 use Rattle.layouts.specs.Read.{readColumn}
@@ -36,6 +36,25 @@ module _ (f : ℕ → ℕ) (k i : ℕ) {x seen : ℕ} (read : x ≡ f i) where
   pub key-passed : (x ≡ k → ⊥) → seen ≡ keyed f k i → seen ≡ keyed f k (i + 1)
   unfolding keyed
   key-passed e s = rw (add-one i, ne-eqb (f i) k (λ q. e (read ∙ q))) s
+
+-- Of no row none has the key, and of i rows at most i.
+module _ (f : ℕ → ℕ) (k : ℕ) where
+  pub keyed-none : 0 ≡ keyed f k 0
+  unfolding keyed
+  keyed-none = refl
+
+  cond-at-most : (x : Bool) {m n : ℕ} → m ≤ n → cond x (m + 1) m ≤ suc n
+  cond-at-most true h = omega arith
+  cond-at-most false h = omega arith
+
+  pub keyed-at-most : (i : ℕ) → keyed f k i ≤ i
+  unfolding keyed
+  keyed-at-most zero = omega arith
+  keyed-at-most (suc i) = cond-at-most (eqb (f i) k) (keyed-at-most i)
+
+  -- A scan over n rows that is at its end has seen all of the key.
+  pub scan-over : {i n seen : ℕ} (rows : ℕ) → i ≤ n → n ≡ rows → n ≤ i → seen ≡ keyed f k i → seen ≡ keyed f k rows
+  scan-over {i} rows a e b s = let end : i ≡ rows = omega arith in s ∙ ap (keyed f k) end
 
 -- Rows without the key add nothing.
 none-keyed : (f : ℕ → ℕ) (k a d : ℕ) → ((i : ℕ) → a ≤ i → i < a + d → f i ≢ k) → keyed f k (a + d) ≡ keyed f k a
@@ -207,3 +226,35 @@ module _ {t l : List ℕ} (laid : Laid t l) (strings blob : List ℕ) (k : ℕ) 
 
   pub generics-missed : (nth : ℕ) {r : Row} → Finds nth r → r ≡ NoRow → getElem? names nth ≡ none
   generics-missed nth h e = generics-past nth (subst (Finds nth) e h)
+
+-- ---- The interfaces of a class, by the view
+
+module _ {t l : List ℕ} (laid : Laid t l) (strings blob : List ℕ) (k : ℕ) where
+  -- What a search among the classes finds.
+  abbrev FindsClass : ℕ → Row → Type 0
+  FindsClass = FoundIs (cell t l columns.implClass) k (rowsAt l columns.implClass)
+
+  abbrev interfaceAt : List ℕ → ℕ
+  interfaceAt = implInterface (sizesIn (optionsIn l) (headerIn t l))
+
+  pub interfaces-count : length (viewIn t l strings blob .interfaces k) ≡ keyed (cell t l columns.implClass) k (rowsAt l columns.implClass)
+  unfolding viewOf
+  interfaces-count = listed-count laid columns.implClass (omega arith) interfaceAt k
+
+  pub interfaces-found : (nth i : ℕ) {r : Row} → FindsClass nth r → r ≡ At i
+      → (i < rowsAt l columns.implClass) × (i < rowsAt l columns.implInterface)
+      × (getElem? (viewIn t l strings blob .interfaces k) nth ≡ some (cell t l columns.implInterface i))
+  unfolding viewOf
+  interfaces-found nth i h e =
+      let found = subst (FindsClass nth) e h in
+      let a = rows-at laid columns.implClass (omega arith) in
+      let b = rows-at laid columns.implInterface (omega arith) in
+      (found .0, omega (arith, found .0), listed-item laid columns.implClass (omega arith) interfaceAt k nth i found)
+
+  pub interfaces-missed : (nth : ℕ) {r : Row} → FindsClass nth r → r ≡ NoRow → getElem? (viewIn t l strings blob .interfaces k) nth ≡ none
+  unfolding viewOf
+  interfaces-missed nth h e = listed-past laid columns.implClass (omega arith) interfaceAt k nth (subst (FindsClass nth) e h)
+
+  -- Behind the row that was found there is one more of the class.
+  pub interfaces-passed : (nth i : ℕ) {r : Row} → FindsClass nth r → r ≡ At i → nth + 1 ≡ keyed (cell t l columns.implClass) k (i + 1)
+  interfaces-passed nth i h e = let found = subst (FindsClass nth) e h in key-met _ k i refl (found .1) (sym (found .2))

@@ -1,7 +1,7 @@
 // Rows of a table by the value of a key column, in their order, as the rows of GenericParam (ECMA-335 II.22.20) that have an Owner. The
 // rows need not be sorted by the key; where they are known to be, those of a key are found by halving.
 ghost use mathlib.Core.Path.{_≡_};
-ghost use Prim.Native.Nat.{_<_};
+ghost use Prim.Native.Nat.{_<_, _≤_};
 ghost use Rattle.rows.specs.Columns as columns;
 ghost use Rattle.rows.specs.Layout.{Laid, Ascends, rowsAt, cell};
 ghost use Rattle.keys.specs.Keyed.{keyed, FoundIs, SplitAt, OnlyIn};
@@ -82,11 +82,27 @@ pub fn find_key(tables: &[u8], layout: &rows::Layout, column: usize, key: usize,
     requires { ⌜ column < columns.count ⌝ }
     ensures { λ r. ⌜ FoundIs (cell (now (tables .entry)) (now (layout .entry)) column) key (rowsAt (now (layout .entry)) column) nth r ⌝ }
 {
-    let span = key_rows(tables, layout, column, key);
-    let end = span.end;
-    let mut i = span.first;
-    let mut seen = 0;
-    while i < end {
+    find_key_from(tables, layout, column, key, nth, 0, 0)
+}
+
+// The same, by one who knows how many rows of the key are before some row: the search goes on from there.
+pub fn find_key_from(
+    tables: &[u8],
+    layout: &rows::Layout,
+    column: usize,
+    key: usize,
+    nth: usize,
+    from: usize,
+    passed: usize,
+) -> Row
+    requires { ⌜ Laid (now tables) (now layout) ⌝ }
+    requires { ⌜ (column < columns.count) × (from ≤ rowsAt (now layout) column) × (passed ≡ keyed (cell (now tables) (now layout) column) key from) × (passed ≤ nth) ⌝ }
+    ensures { λ r. ⌜ FoundIs (cell (now (tables .entry)) (now (layout .entry)) column) key (rowsAt (now (layout .entry)) column) nth r ⌝ }
+{
+    let n = rows::count_rows(layout, column);
+    let mut i = from;
+    let mut seen = passed;
+    while i < n {
         let at = i;
         i += 1;
         if rows::read_column(tables, layout, column, at) as usize == key {
