@@ -18,6 +18,8 @@ use Rattle.numbers.specs.Parts.{part}
 use Rattle.numbers.specs.declared.Uint.{Uint}
 use Rattle.numbers.specs.declared.Uint.the-variants.{Number, NoNumber}
 use Rattle.buffers.specs.Texts.{Text}
+use Rattle.buffers.specs.Writes.{Kept, Wrote}
+use Rattle.buffers.proofs.Writing.{kept-same}
 use Rattle.heaps.specs.Lookups.{blobAt, blob}
 use Rattle.heaps.specs.declared.Absence.{Absence}
 use Rattle.heaps.specs.declared.Part.{Part}
@@ -120,8 +122,8 @@ module _ {t l : List ℕ} (laid : Laid t l) (strings heap : List ℕ) (m c : ℕ
     looked-at : p ≡ blobAt heap (cell t l columns.methodSignature m)
     looked-at = looked ∙ ap (blobAt heap) told
 
-    pub no-blob : (b : List ℕ) {why : Absence} → p ≡ Absent why → ReadingIs v heap m (readBy v m c) b b Missing
-    no-blob b f = missing (by-class ∙ ap (λ (o : Option (List ℕ)). andThen o (λ bytes. signature e bytes 0 .got)) (blob-absent heap (cell t l columns.methodSignature m) (sym f ∙ looked-at))) refl
+    pub no-blob : (b : List ℕ) (at : ℕ) {why : Absence} → p ≡ Absent why → ReadingIs v heap m (readBy v m c) b at b Missing
+    no-blob b at f = missing (by-class ∙ ap (λ (o : Option (List ℕ)). andThen o (λ bytes. signature e bytes 0 .got)) (blob-absent heap (cell t l columns.methodSignature m) (sym f ∙ looked-at))) (kept-same b at)
 
     module _ {start len : ℕ} (f : p ≡ Found start len) where
       pub inside : start + len ≤ length heap
@@ -134,56 +136,63 @@ module _ {t l : List ℕ} (laid : Laid t l) (strings heap : List ℕ) (m c : ℕ
         start-at : uintSays u ≡ methodStart (part heap start len) 0
         start-at = rw is at counted
 
-        pub no-start : (b : List ℕ) {next : ℕ} → u ≡ NoNumber next → ReadingIs v heap m (readBy v m c) b b Missing
-        no-start b g = missing (of-part ∙ signature-cut e (part heap start len) (ap uintSays (sym g) ∙ start-at)) refl
+        pub no-start : (b : List ℕ) (at : ℕ) {next : ℕ} → u ≡ NoNumber next → ReadingIs v heap m (readBy v m c) b at b Missing
+        no-start b at g = missing (of-part ∙ signature-cut e (part heap start len) (ap uintSays (sym g) ∙ start-at)) (kept-same b at)
 
-        module _ {n first : ℕ} (g : u ≡ Number n first) {owner : ℕ} (its : owner ≡ 2 * (c + 2)) {b b′ : List ℕ} {r : Rendering}
-            (rendered : Rendered (type (envIn t l strings heap (Of owner) (Of (2 * (m + 1) + 1))) levels sig first) b 0 b′ r) where
-          here : Rendered (type e levels (part heap start len) first) b 0 b′ r
+        module _ {n first : ℕ} (g : u ≡ Number n first) {owner : ℕ} (its : owner ≡ 2 * (c + 2)) {b b′ : List ℕ} {at : ℕ} {r : Rendering}
+            (rendered : Rendered (type (envIn t l strings heap (Of owner) (Of (2 * (m + 1) + 1))) levels sig first) b at b′ r) where
+          here : Rendered (type e levels (part heap start len) first) b at b′ r
           unfolding envIn
           here = rw (is, its) at rendered
 
-          pub no-type : {next : ℕ} → r ≡ Failed next → ReadingIs v heap m (readBy v m c) b b′ Missing
+          pub no-type : {next : ℕ} → r ≡ Failed next → ReadingIs v heap m (readBy v m c) b at b′ Missing
           no-type k =
               let x = rendered-failed here k in
-              missing (of-part ∙ signature-unread e (part heap start len) (ap uintSays (sym g) ∙ start-at) (x .got)) (x .keeps .long)
+              missing (of-part ∙ signature-unread e (part heap start len) (ap uintSays (sym g) ∙ start-at) (x .got)) (x .keeps)
 
-          pub signature-there : {end next : ℕ} → r ≡ Done end next → ReadingIs v heap m (readBy v m c) b b′ (Read owner start len next n end)
+          pub signature-there : {end next : ℕ} → r ≡ Done end next → ReadingIs v heap m (readBy v m c) b at b′ (Read owner start len next n end)
           signature-there k =
               let x = rendered-done here k in
               rw its (read (x .text) inside (of-part ∙ signature-read e (part heap start len) (ap uintSays (sym g) ∙ start-at) (x .got) (x .on)) (x .wrote))
 
 -- ---- Readings that were made
 
-module _ {v : View} {heap : List ℕ} {m : ℕ} {d : Option Signature} {b b′ : List ℕ} where
-  -- What was in the buffer before does not matter, only its length.
-  pub reading-length : {b₀ : List ℕ} {r : Reading} → length b ≡ length b₀ → ReadingIs v heap m d b b′ r → ReadingIs v heap m d b₀ b′ r
-  reading-length k (read {end = end} t i q w) =
-      read {end = end} t i q (record {
-        keeps = record { long = w .keeps .long ∙ k; kept = λ j z _. absurd (omega arith) };
-        place = omega (arith, w .place, k);
-        text = λ x. w .text (omega arith);
-      })
-  reading-length k (missing q n) = missing q (n ∙ k)
+-- What is kept twice is kept.
+pub kept-twice : {b₀ b b′ : List ℕ} {at : ℕ} → Kept b₀ at b → Kept b at b′ → Kept b₀ at b′
+kept-twice k n = record {
+  long = n .long ∙ k .long;
+  kept = λ i lt in-b. n .kept i lt (omega (arith, k .long)) ∙ k .kept i lt in-b;
+}
 
-  pub reading-as : {d′ : Option Signature} {r : Reading} → d′ ≡ d → ReadingIs v heap m d b b′ r → ReadingIs v heap m d′ b b′ r
-  reading-as e h = rw e h
+-- A text that was written behind what was kept.
+wrote-behind : {b₀ b b′ : List ℕ} {at end : ℕ} {t : Text} → Kept b₀ at b → Wrote b at t b′ end → Wrote b₀ at t b′ end
+wrote-behind k w = record {
+  keeps = kept-twice k (w .keeps);
+  place = omega (arith, w .place, k .long);
+  text = λ fits. w .text (omega (arith, k .long));
+}
 
-  missed : ReadingIs v heap m d b b′ Missing → (d ≡ none) × (length b′ ≡ length b)
+module _ {v : View} {heap : List ℕ} {m : ℕ} {d : Option Signature} {b b′ : List ℕ} {at : ℕ} where
+  -- What was kept before it is kept after it.
+  pub reading-behind : {b₀ : List ℕ} {r : Reading} → Kept b₀ at b → ReadingIs v heap m d b at b′ r → ReadingIs v heap m d b₀ at b′ r
+  reading-behind k (read {end = end} t i q w) = read {end = end} t i q (wrote-behind k w)
+  reading-behind k (missing q n) = missing q (kept-twice k n)
+
+  missed : ReadingIs v heap m d b at b′ Missing → (d ≡ none) × Kept b at b′
   missed (missing e n) = (e, n)
 
   -- A reading that succeeded is whatever it stands for.
   stands : {d′ : Option Signature} {owner start len next count end : ℕ} → ((s : Signature) → d ≡ some s → d′ ≡ some s)
-      → ReadingIs v heap m d b b′ (Read owner start len next count end) → ReadingIs v heap m d′ b b′ (Read owner start len next count end)
+      → ReadingIs v heap m d b at b′ (Read owner start len next count end) → ReadingIs v heap m d′ b at b′ (Read owner start len next count end)
   stands f (read t i e w) = read t i (f _ e) w
 
-  module _ {r : Reading} (h : ReadingIs v heap m d b b′ r) where
-    pub reading-missed : r ≡ Missing → (d ≡ none) × (length b′ ≡ length b)
-    reading-missed e = missed (subst (ReadingIs v heap m d b b′) e h)
+  module _ {r : Reading} (h : ReadingIs v heap m d b at b′ r) where
+    pub reading-missed : r ≡ Missing → (d ≡ none) × Kept b at b′
+    reading-missed e = missed (subst (ReadingIs v heap m d b at b′) e h)
 
     pub reading-stands : {d′ : Option Signature} {owner start len next count end : ℕ} → ((s : Signature) → d ≡ some s → d′ ≡ some s)
-        → r ≡ Read owner start len next count end → ReadingIs v heap m d′ b b′ (Read owner start len next count end)
-    reading-stands f e = stands f (subst (ReadingIs v heap m d b b′) e h)
+        → r ≡ Read owner start len next count end → ReadingIs v heap m d′ b at b′ (Read owner start len next count end)
+    reading-stands f e = stands f (subst (ReadingIs v heap m d b at b′) e h)
 
 -- ---- Within a class's methods
 

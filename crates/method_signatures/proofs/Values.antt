@@ -8,16 +8,14 @@ use native.Mathlib.Omega.{arith}
 use borrow.Author.Tests.{eq-eqb, ne-eqb, lt-ltb, le-ltb}
 use denote.Ref.{RefT, now}
 use lib.ListN.{length, getElem?}
-use Rattle.numbers.specs.Reading.{Reader}
 use Rattle.numbers.specs.Parts.{part, CutOf}
 use Rattle.numbers.proofs.Parts.{cut-is}
 use Rattle.buffers.specs.Texts.{Text, q, decimal}
-use Rattle.buffers.specs.Writes.{Kept, Wrote, Said, missing, written}
-use Rattle.buffers.proofs.Writing.{wrote-none}
-use Rattle.buffers.specs.Replies.{Answer, refused, value, number, nameOr5, Named}
-use Rattle.buffers.specs.declared.Reply.{Reply}
-use Rattle.buffers.proofs.Replies.{named-length}
+use Rattle.buffers.specs.Writes.{Wrote, Said, written}
+use Rattle.buffers.specs.Replies.{refused, value, number, nameOr5}
+use Rattle.buffers.specs.Telling.{ToldIs, name, missing}
 use Rattle.buffers.specs.declared.Refusal.the-variants.{NoSuchRow}
+use Rattle.buffers.specs.declared.Told.the-variants.{Name, Missing as NoName}
 use Rattle.heaps.specs.Lookups.{stringAt, string}
 use Rattle.heaps.specs.declared.Absence.{Absence}
 use Rattle.heaps.specs.declared.Part.{Part}
@@ -31,24 +29,20 @@ use Rattle.record.specs.View.{View, viewOf, otherRow}
 use Rattle.record.specs.Names.{indexed, sizesOf, numberIn, methodRow}
 use Rattle.record.specs.Methods.{Signature, signatureOf, paramText, parameterName}
 use Rattle.record.specs.Record.{Parameter, parametersFrom, method}
-use Rattle.record.specs.Answers.{_⟫_, orNoRow, item}
+use Rattle.record.specs.Answers.{orNoRow}
 use Rattle.record.proofs.Read.{method-row}
 use Rattle.rows.specs.Columns as columns
 use Rattle.rows.specs.Layout.{Laid, rowsAt, cell, optionsIn, headerIn, viewIn}
 use Rattle.rows.proofs.Laws.{rows-at}
-use Rattle.rendering.specs.Rendered.{Rendered}
-use Rattle.rendering.specs.declared.Rendering.{Rendering}
-use Rattle.rendering.specs.declared.Rendering.the-variants.{Done, Failed}
-use Rattle.rendering.proofs.Laws.{rendered-done, rendered-failed}
-use Rattle.method_signatures.specs.Signatures.{typeBy, typesFrom, behind, ReadingIs, read}
+use Rattle.method_signatures.specs.Signatures.{typeBy, typesFrom, ReadingIs, read}
 use Rattle.method_signatures.specs.declared.Reading.{Reading}
 use Rattle.method_signatures.specs.declared.Reading.the-variants.{Read, Missing}
-use Rattle.method_signatures.proofs.Laws.{type-at, types-past, types-length, reading-missed}
+use Rattle.method_signatures.proofs.Laws.{types-length, reading-missed}
 
 -- ---- Parameters by their types
 
 module _ (v : View) (m : ℕ) where
-  parameters-length : (i : ℕ) (ts : List (Option Text)) → length (parametersFrom v m i ts) ≡ length ts
+  pub parameters-length : (i : ℕ) (ts : List (Option Text)) → length (parametersFrom v m i ts) ≡ length ts
   parameters-length i [] = refl
   parameters-length i (t ∷ ts) = ap suc (parameters-length (i + 1) ts)
 
@@ -59,11 +53,11 @@ module _ (v : View) (m : ℕ) where
       let e : i + 1 + p ≡ i + suc p = omega arith in
       parameter-at (i + 1) p ts ∙ ap (λ (k : ℕ). over (λ t. record { type = t; name = parameterName v m k }) (getElem? ts p)) e
 
-  parameter-some : (p : ℕ) (ts : List (Option Text)) {t : Option Text} → getElem? ts p ≡ some t
+  pub parameter-some : (p : ℕ) (ts : List (Option Text)) {t : Option Text} → getElem? ts p ≡ some t
       → orNoRow (getElem? (parametersFrom v m 0 ts) p) ≡ value (record { type = t; name = parameterName v m p })
   parameter-some p ts e = ap orNoRow (parameter-at 0 p ts) ∙ rw (e, zero-add p)
 
-  parameter-gone : (p : ℕ) (ts : List (Option Text)) → getElem? ts p ≡ none → orNoRow (getElem? (parametersFrom v m 0 ts) p) ≡ refused (number NoSuchRow)
+  pub parameter-gone : (p : ℕ) (ts : List (Option Text)) → getElem? ts p ≡ none → orNoRow (getElem? (parametersFrom v m 0 ts) p) ≡ refused (number NoSuchRow)
   parameter-gone p ts e = ap orNoRow (parameter-at 0 p ts) ∙ rw e
 
   -- A method by what its signature is.
@@ -86,86 +80,36 @@ module _ (v : View) (m : ℕ) where
 
 -- ---- A reading that was made
 
--- In the buffer there may be anything.
-kept-none : {b b′ : List ℕ} → length b′ ≡ length b → Kept b 0 b′
-kept-none n = record { long = n; kept = λ i h _. absurd (omega arith) }
-
 -- What a reading that succeeded found.
-pub record Made (v : View) (heap : List ℕ) (m : ℕ) (b b′ : List ℕ) (owner start len next count end : ℕ) : Type 0 where
+pub record Made (v : View) (heap : List ℕ) (m : ℕ) (b : List ℕ) (at : ℕ) (b′ : List ℕ) (owner start len next count end : ℕ) : Type 0 where
   pub text : Text
   pub inside : start + len ≤ length heap
   pub is : signatureOf v m ≡ some (record { returns = text; parameters = typesFrom (typeBy v m owner) count (part heap start len) next })
-  pub wrote : Wrote b 0 text b′ end
+  pub wrote : Wrote b at text b′ end
 
-module _ {v : View} {heap : List ℕ} {m : ℕ} {b b′ : List ℕ} where
-  made-in : {owner start len next count end : ℕ} → ReadingIs v heap m (signatureOf v m) b b′ (Read owner start len next count end)
-      → Made v heap m b b′ owner start len next count end
+module _ {v : View} {heap : List ℕ} {m : ℕ} {b b′ : List ℕ} {at : ℕ} where
+  made-in : {owner start len next count end : ℕ} → ReadingIs v heap m (signatureOf v m) b at b′ (Read owner start len next count end)
+      → Made v heap m b at b′ owner start len next count end
   made-in (read t i e w) = record { text = t; inside = i; is = e; wrote = w }
 
-  module _ {r : Reading} (h : ReadingIs v heap m (signatureOf v m) b b′ r) where
-    pub made : {owner start len next count end : ℕ} → r ≡ Read owner start len next count end → Made v heap m b b′ owner start len next count end
-    made e = made-in (subst (ReadingIs v heap m (signatureOf v m) b b′) e h)
+  module _ {r : Reading} (h : ReadingIs v heap m (signatureOf v m) b at b′ r) where
+    pub made : {owner start len next count end : ℕ} → r ≡ Read owner start len next count end → Made v heap m b at b′ owner start len next count end
+    made e = made-in (subst (ReadingIs v heap m (signatureOf v m) b at b′) e h)
 
     module _ (e : r ≡ Missing) where
-      pub unmade-length : length b′ ≡ length b
-      unmade-length = reading-missed h e .1
-
-      pub no-return : Said b 0 b′ (method v m .returns) none
-      no-return = rw (unread-returns v m (reading-missed h e .0)) (missing (kept-none unmade-length))
+      pub no-return : ToldIs (nameOr5 (method v m .returns)) b at b′ NoName
+      no-return = missing (ap nameOr5 (unread-returns v m (reading-missed h e .0))) (reading-missed h e .1)
 
       pub no-parameters : 0 ≡ length (method v m .parameters)
       no-parameters = rw (unread-parameters v m (reading-missed h e .0))
 
-      pub no-parameter : (p : ℕ) → item (method v m .parameters) p ≡ refused (number NoSuchRow)
-      no-parameter p = rw (unread-parameters v m (reading-missed h e .0))
-
-  module _ {owner start len next count end : ℕ} (k : Made v heap m b b′ owner start len next count end) where
-    pub said-return : Said b 0 b′ (method v m .returns) (some end)
-    said-return = rw (read-returns v m (k .is)) (written (k .wrote))
+  module _ {owner start len next count end : ℕ} (k : Made v heap m b at b′ owner start len next count end) where
+    pub told-return : ToldIs (nameOr5 (method v m .returns)) b at b′ (Name end)
+    told-return = name (k .text) (ap nameOr5 (read-returns v m (k .is))) (k .wrote)
 
     pub parameters-counted : count ≡ length (method v m .parameters)
     parameters-counted =
         sym (ap (λ (l : List Parameter). length l) (read-parameters v m (k .is)) ∙ parameters-length v m 0 (typesFrom (typeBy v m owner) count (part heap start len) next) ∙ types-length (typeBy v m owner) count (part heap start len) next)
-
-    pub parameter-there : (p : ℕ) → p < count
-        → item (method v m .parameters) p
-        ≡ value (record { type = typeBy v m owner (part heap start len) (behind (typeBy v m owner) p (part heap start len) next) .got; name = parameterName v m p })
-    parameter-there p h =
-        ap (λ (l : List Parameter). item l p) (read-parameters v m (k .is))
-        ∙ parameter-some v m p (typesFrom (typeBy v m owner) count (part heap start len) next) (type-at (typeBy v m owner) count p (part heap start len) next h)
-
-    pub parameter-past : (p : ℕ) → count ≤ p → item (method v m .parameters) p ≡ refused (number NoSuchRow)
-    parameter-past p h =
-        ap (λ (l : List Parameter). item l p) (read-parameters v m (k .is))
-        ∙ parameter-gone v m p (typesFrom (typeBy v m owner) count (part heap start len) next) (types-past (typeBy v m owner) count p (part heap start len) next h)
-
-    -- A call for a parameter, once the reading has been made.
-    module _ (p : ℕ) {b″ : List ℕ} {r : Reply} where
-      pub parameter-typed : p < count → {sig : List ℕ} → sig ≡ part heap start len
-          → Named (nameOr5 (typeBy v m owner sig (behind (typeBy v m owner) p sig next) .got)) b′ r b″
-          → Named (item (method v m .parameters) p ⟫ (λ k. nameOr5 (k .type))) b r b″
-      parameter-typed h e n = rw (parameter-there p h) (named-length (k .wrote .keeps .long) (rw e at n))
-
-      pub parameter-named : p < count → Named (nameOr5 (parameterName v m p)) b′ r b″
-          → Named (item (method v m .parameters) p ⟫ (λ k. nameOr5 (k .name))) b r b″
-      parameter-named h n = rw (parameter-there p h) (named-length (k .wrote .keeps .long) n)
-
-      pub parameter-none : (f : Parameter → Answer Text) → count ≤ p → Named (refused (number NoSuchRow)) b′ r b″ → Named (item (method v m .parameters) p ⟫ f) b r b″
-      parameter-none f h n = rw (parameter-past p h) (named-length (k .wrote .keeps .long) n)
-
--- The same where there is no reading.
-pub parameter-unread : {v : View} {heap : List ℕ} {m : ℕ} {b b′ b″ : List ℕ} {r : Reading} {reply : Reply} (p : ℕ) (f : Parameter → Answer Text)
-    → ReadingIs v heap m (signatureOf v m) b b′ r → r ≡ Missing → Named (refused (number NoSuchRow)) b′ reply b″
-    → Named (item (method v m .parameters) p ⟫ f) b reply b″
-parameter-unread p f h e n = rw (no-parameter h e p) (named-length (unmade-length h e) n)
-
--- A type that was rendered at a position.
-module _ (type : Reader Text) (s : List ℕ) {at p : ℕ} (e : at ≡ p) {b b′ : List ℕ} {r : Rendering} (h : Rendered (type s at) b 0 b′ r) where
-  pub said-type : {end next : ℕ} → r ≡ Done end next → Said b 0 b′ (type s p .got) (some end)
-  said-type f = let x = rendered-done h f in rw (ap (λ (i : ℕ). type s i .got) (sym e) ∙ x .got) (written (x .wrote))
-
-  pub said-no-type : {next : ℕ} → r ≡ Failed next → Said b 0 b′ (type s p .got) none
-  said-no-type f = let x = rendered-failed h f in rw (ap (λ (i : ℕ). type s i .got) (sym e) ∙ x .got) (missing (x .keeps))
 
 -- ---- The names of parameters, by the ParamList column
 
@@ -203,15 +147,15 @@ module _ {t l : List ℕ} (laid : Laid t l) (strings blob : List ℕ) (m : ℕ) 
 
     -- The string that the Param row finds, and the empty name where it finds none.
     module _ {part : Part} (k : first + p ≤ rowsAt l columns.paramName) where
-      pub said-no-param : part ≡ stringAt strings (cell t l columns.paramName (first + p - 1)) → {why : Absence} → part ≡ Absent why → (b : List ℕ)
-          → Said b 0 b (parameterName v m p) (some 0)
-      said-no-param e f b = rw (name-read k, string-none strings _ (sym f ∙ e)) (written (wrote-none b 0 0 (omega arith)))
+      pub said-no-param : part ≡ stringAt strings (cell t l columns.paramName (first + p - 1)) → {why : Absence} → part ≡ Absent why → {b b′ : List ℕ} {at end : ℕ} → Wrote b at [] b′ end
+          → Said b at b′ (parameterName v m p) (some end)
+      said-no-param e f w = rw (name-read k, string-none strings _ (sym f ∙ e)) (written w)
 
 -- The same with a lent heap, of which the string is a part.
 pub said-param : {t l : List ℕ} (laid : Laid t l) (strings : RefT (List ℕ)) (blob : List ℕ) (m : ℕ) (h : m < rowsAt l columns.paramList) {first : ℕ} (col : first ≡ cell t l columns.paramList m) (p : ℕ)
     (n : first ≡ 0 → ⊥) (k : first + p ≤ rowsAt l columns.paramName) {found : Part} → found ≡ stringAt (now strings) (cell t l columns.paramName (first + p - 1))
     → {start len : ℕ} → found ≡ Found start len → {text : RefT (List ℕ)} → CutOf text strings start len
-    → {b b′ : List ℕ} {at : ℕ} → Wrote b 0 (now text) b′ at → Said b 0 b′ (parameterName (viewIn t l (now strings) blob) m p) (some at)
+    → {b b′ : List ℕ} {at end : ℕ} → Wrote b at (now text) b′ end → Said b at b′ (parameterName (viewIn t l (now strings) blob) m p) (some end)
 said-param laid strings blob m h col p n k e f c w =
     let there = sym f ∙ e in
     rw (name-read laid (now strings) blob m h col p n k, string-some (now strings) _ there, ← (cut-is _ strings _ _ (string-within (now strings) _ there) c .bytes)) (written w)

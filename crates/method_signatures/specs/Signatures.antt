@@ -8,7 +8,7 @@ use lib.ListN.{length}
 use Rattle.numbers.specs.Reading.{Reader}
 use Rattle.numbers.specs.Parts.{part}
 use Rattle.buffers.specs.Texts.{Text}
-use Rattle.buffers.specs.Writes.{Wrote}
+use Rattle.buffers.specs.Writes.{Kept, Wrote}
 use Rattle.record.specs.Missing.{orElse}
 use Rattle.record.specs.View.{View}
 use Rattle.record.specs.Types.{type}
@@ -46,10 +46,10 @@ ReaderIs v m c (By reader next) =
     (c < next .0) × (next .0 ≤ classes v) × (readFrom v m c ≡ orElse (readBy v m (reader .0)) (readFrom v m (next .0)))
 ReaderIs v m c Nobody = readFrom v m c ≡ none
 
--- From the buffer b to b′, r is the reading d of method m's signature: the return type was written, and the parameters' types follow in
--- that part of the blob heap, as that owner's class reads them; or there is no reading, and in the buffer may be anything.
-pub data ReadingIs (v : View) (heap : List ℕ) (m : ℕ) (d : Option Signature) (b b′ : List ℕ) : Reading → Type 0 where
+-- From the buffer b to b′, r is the reading d of method m's signature: the return type was written at the place, and the parameters' types
+-- follow in that part of the blob heap, as that owner's class reads them; or there is no reading, and nothing before the place changed.
+pub data ReadingIs (v : View) (heap : List ℕ) (m : ℕ) (d : Option Signature) (b : List ℕ) (at : ℕ) (b′ : List ℕ) : Reading → Type 0 where
   read : {owner start len next count end : ℕ} (t : Text) → start + len ≤ length heap
       → d ≡ some (record { returns = t; parameters = typesFrom (typeBy v m owner) count (part heap start len) next })
-      → Wrote b 0 t b′ end → ReadingIs v heap m d b b′ (Read owner start len next count end)
-  missing : d ≡ none → length b′ ≡ length b → ReadingIs v heap m d b b′ Missing
+      → Wrote b at t b′ end → ReadingIs v heap m d b at b′ (Read owner start len next count end)
+  missing : d ≡ none → Kept b at b′ → ReadingIs v heap m d b at b′ Missing

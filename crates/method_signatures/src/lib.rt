@@ -1,11 +1,13 @@
 // The signatures of methods (ECMA-335 II.23.2.1): whose reading of a method's signature stands (`finalize`, its first pass), the return
-// type that it finds, and the types of the parameters behind it.
+// type that it finds, and the types of the parameters behind it. What is known of a signature goes in and out by value, so that the next
+// question about the same method goes on where the last one left off. It is true whatever is asked next: a question first looks whether
+// it is about the method that is meant, and else finds out anew.
 use buffers::Place;
-use buffers::Refusal;
-use buffers::Reply;
+use buffers::Told;
 use classes::ClassNumber;
 use heaps::Part;
 use numbers::Uint;
+use numbers::wide;
 use rendering::Rendering;
 use rows::Layout;
 use rows::columns;
@@ -14,11 +16,14 @@ use sig_leaves::Owner;
 ghost use mathlib.Core.Path.{_≡_};
 ghost use mathlib.Core.Bool.{_&&_};
 ghost use mathlib.Core.List.{List};
-ghost use Prim.Native.Nat.{ℕ, _<_};
+ghost use mathlib.Core.Option.{none};
+ghost use Prim.Native.Nat.{ℕ, _+_, _<_};
 ghost use lib.Dec.{leb, ltb};
 ghost use lib.ListN.{length};
 ghost use Rattle.buffers.specs.Writes.{Said, placeSays};
-ghost use Rattle.buffers.specs.Replies.{nameOr5, Named};
+ghost use Rattle.buffers.specs.Replies.{nameOr5};
+ghost use Rattle.buffers.specs.Telling.{ToldIs};
+ghost use Rattle.record.specs.View.{View};
 ghost use Rattle.record.specs.Names.{levels};
 ghost use Rattle.record.specs.Types.{type};
 ghost use Rattle.record.specs.Methods.{readBy, signatureOf, parameterName};
@@ -28,6 +33,7 @@ ghost use Rattle.rows.specs.Columns as columns;
 ghost use Rattle.rows.specs.Layout.{Laid, rowsAt, viewIn};
 ghost use Rattle.signatures.specs.Environment.{envIn};
 ghost use Rattle.method_signatures.specs.Signatures.{behind, ReadFrom, ReaderIs, ReadingIs};
+ghost use Rattle.method_signatures.specs.Known.{KnowsSignature, readMore};
 
 // A method's signature as a class reads it: the class as an owner of generic parameters, where in the blob heap the signature stands, the
 // position behind the return type, the number of parameters, and the place behind the return type's text in the buffer.
@@ -43,15 +49,36 @@ pub enum Reading {
     Missing,
 }
 
+// The signature of a method, as far as the types of some of its parameters have been read.
+pub struct Signature {
+    // the method's row, from 1; 0 where no signature is known
+    pub method: usize,
+    // whose class reads it, as an owner of generic parameters, and where in the blob heap it stands
+    pub owner: usize,
+    pub start: usize,
+    pub len: usize,
+    // how many parameters it has, how many of their types have been read, and the position behind these
+    pub count: usize,
+    pub read: usize,
+    pub next: usize,
+}
+
+// What an answer came to, and what is known of the signature after it.
+pub struct Typed {
+    pub told: Told,
+    pub signature: Signature,
+}
+
 // A class that reads a method, and the class from which on others may read it too.
 pub enum ClassReader {
     By(ClassNumber, ClassNumber),
     Nobody,
 }
 
-// A class's reading of method m's signature.
+// A class's reading of method m's signature, with the return type at a place.
 fn read_by(
     buf: &mut [u8],
+    at: usize,
     tables: &[u8],
     strings: &[u8],
     blob: &[u8],
@@ -62,7 +89,7 @@ fn read_by(
     requires { ⌜ Laid (now tables) (now layout) ⌝ }
     requires { ⌜ m < rowsAt (now layout) columns.methodSignature ⌝ }
     ensures { λ r. let v = viewIn (now (tables .entry)) (now (layout .entry)) (now (strings .entry)) (now (blob .entry)) in
-        ⌜ ReadingIs v (now (blob .entry)) m (readBy v m (class .0)) (now (buf .entry)) (now (buf .exit)) r ⌝ }
+        ⌜ ReadingIs v (now (blob .entry)) m (readBy v m (class .0)) (now (buf .entry)) at (now (buf .exit)) r ⌝ }
 {
     let index = rows::read_column(tables, layout, columns::METHOD_SIGNATURE, m);
     match heaps::get_blob(blob, index as usize) {
@@ -73,7 +100,7 @@ fn read_by(
                 Uint::Number(count, first) => {
                     match signatures::parse_sig_type(
                         buf,
-                        0,
+                        at,
                         tables,
                         strings,
                         blob,
@@ -154,9 +181,10 @@ fn next_reader(tables: &[u8], layout: &Layout, m: usize, from: ClassNumber) -> C
     ClassReader::Nobody
 }
 
-// The signature of method m: of the classes that read it the lowest whose reading succeeds.
-pub fn read_signature(
+// The signature of method m, with the return type at a place: of the classes that read it the lowest whose reading succeeds.
+fn read_signature(
     buf: &mut [u8],
+    at: usize,
     tables: &[u8],
     strings: &[u8],
     blob: &[u8],
@@ -166,14 +194,14 @@ pub fn read_signature(
     requires { ⌜ Laid (now tables) (now layout) ⌝ }
     requires { ⌜ m < rowsAt (now layout) columns.methodSignature ⌝ }
     ensures { λ r. let v = viewIn (now (tables .entry)) (now (layout .entry)) (now (strings .entry)) (now (blob .entry)) in
-        ⌜ ReadingIs v (now (blob .entry)) m (signatureOf v m) (now (buf .entry)) (now (buf .exit)) r ⌝ }
+        ⌜ ReadingIs v (now (blob .entry)) m (signatureOf v m) (now (buf .entry)) at (now (buf .exit)) r ⌝ }
 {
     let n = rows::count_rows(layout, columns::METHOD_LIST);
     let mut class = first_reader(tables, layout, m);
     while classes::place_of(class) < n {
         match next_reader(tables, layout, m, class) {
             ClassReader::By(reader, after) => {
-                match read_by(buf, tables, strings, blob, layout, m, reader) {
+                match read_by(buf, at, tables, strings, blob, layout, m, reader) {
                     Reading::Read {
                         owner,
                         start,
@@ -204,26 +232,6 @@ pub fn read_signature(
     Reading::Missing
 }
 
-// Answer a call for the return type of method m.
-pub fn write_return_type(
-    buf: &mut [u8],
-    tables: &[u8],
-    strings: &[u8],
-    blob: &[u8],
-    layout: &Layout,
-    m: usize,
-) -> Reply
-    requires { ⌜ Laid (now tables) (now layout) ⌝ }
-    requires { ⌜ m < rowsAt (now layout) columns.methodSignature ⌝ }
-    ensures { λ r. let v = viewIn (now (tables .entry)) (now (layout .entry)) (now (strings .entry)) (now (blob .entry)) in
-        ⌜ Named (nameOr5 (method v m .returns)) (now (buf .entry)) r (now (buf .exit)) ⌝ }
-{
-    match read_signature(buf, tables, strings, blob, layout, m) {
-        Reading::Read { end, .. } => buffers::finish(buf, end),
-        Reading::Missing => buffers::refuse(buf, Refusal::NoName),
-    }
-}
-
 // How many parameters method m has. The text of its return type goes to a buffer of one byte, since only its length is counted.
 pub fn count_params(tables: &[u8], strings: &[u8], blob: &[u8], layout: &Layout, m: usize) -> usize
     requires { ⌜ Laid (now tables) (now layout) ⌝ }
@@ -232,7 +240,7 @@ pub fn count_params(tables: &[u8], strings: &[u8], blob: &[u8], layout: &Layout,
         ⌜ r ≡ length (method v m .parameters) ⌝ }
 {
     let mut space = [0u8; 1];
-    match read_signature(&mut space, tables, strings, blob, layout, m) {
+    match read_signature(&mut space, 0, tables, strings, blob, layout, m) {
         Reading::Read { count, .. } => count as usize,
         Reading::Missing => 0,
     }
@@ -283,70 +291,104 @@ fn skip_types(
     p
 }
 
-// Answer a call for the type that so many types stand before.
-fn write_type(
+// No signature is known.
+pub fn no_signature() -> Signature
+    ensures { λ r. ⌜ ((v : View) (heap : List ℕ) → KnowsSignature v heap r) ⌝ }
+{
+    Signature {
+        method: 0,
+        owner: 0,
+        start: 0,
+        len: 0,
+        count: 0,
+        read: 0,
+        next: 0,
+    }
+}
+
+// Method m is known to have no signature: no types, however many have been read.
+fn unread_signature(m: usize, read: usize) -> Signature
+    requires { ⌜ m < 4294967296 ⌝ }
+    ensures { λ r.
+        ⌜ ((v : View) (heap : List ℕ) → signatureOf v m ≡ none → KnowsSignature v heap r) × (r .method ≡ m + 1) × (r .read ≡ read) ⌝ }
+{
+    Signature {
+        method: m + 1,
+        owner: 0,
+        start: 0,
+        len: 0,
+        count: 0,
+        read,
+        next: 0,
+    }
+}
+
+// What the answer for the return type of method m comes to at a place.
+pub fn tell_return_type(
     buf: &mut [u8],
+    at: usize,
     tables: &[u8],
     strings: &[u8],
     blob: &[u8],
     layout: &Layout,
-    class: Owner,
-    method: Owner,
-    sig: &[u8],
-    pos: usize,
-    before: usize,
-) -> Reply
+    m: usize,
+) -> Typed
     requires { ⌜ Laid (now tables) (now layout) ⌝ }
-    ensures { λ r. let e = envIn (now (tables .entry)) (now (layout .entry)) (now (strings .entry)) (now (blob .entry)) class method in
-        ⌜ Named (nameOr5 (type e levels (now (sig .entry)) (behind (type e levels) before (now (sig .entry)) pos) .got)) (now (buf .entry))
-        r (now (buf .exit)) ⌝ }
+    requires { ⌜ m < rowsAt (now layout) columns.methodSignature ⌝ }
+    ensures { λ r. let v = viewIn (now (tables .entry)) (now (layout .entry)) (now (strings .entry)) (now (blob .entry)) in
+        ⌜ ToldIs (nameOr5 (method v m .returns)) (now (buf .entry)) at (now (buf .exit)) (r .told) ×
+        KnowsSignature v (now (blob .entry)) (r .signature) ⌝ }
 {
-    let at = skip_types(
-        buf,
-        tables,
-        strings,
-        blob,
-        layout,
-        class,
-        method,
-        sig,
-        pos,
-        before,
-    );
-    match signatures::parse_sig_type(
-        buf,
-        0,
-        tables,
-        strings,
-        blob,
-        layout,
-        class,
-        method,
-        sig,
-        at,
-        LEVELS,
-    ) {
-        Rendering::Done(end, _) => buffers::finish(buf, end),
-        Rendering::Failed(_) => buffers::refuse(buf, Refusal::NoName),
+    match read_signature(buf, at, tables, strings, blob, layout, m) {
+        Reading::Read {
+            owner,
+            start,
+            len,
+            next,
+            count,
+            end,
+        } => {
+            let signature = Signature {
+                method: m + 1,
+                owner,
+                start,
+                len,
+                count: wide(count),
+                read: 0,
+                next,
+            };
+            Typed {
+                told: Told::Name(end),
+                signature,
+            }
+        }
+        Reading::Missing => {
+            let signature = unread_signature(m, 0);
+            Typed {
+                told: Told::Missing,
+                signature,
+            }
+        }
     }
 }
 
-// Answer a call for the type of parameter p of method m.
-pub fn write_param_type(
-    buf: &mut [u8],
+// The signature of method m behind the types of p parameters, read from its beginning. The texts go to a buffer of one byte.
+fn find_signature(
     tables: &[u8],
     strings: &[u8],
     blob: &[u8],
     layout: &Layout,
     m: usize,
     p: u32,
-) -> Reply
+) -> Signature
     requires { ⌜ Laid (now tables) (now layout) ⌝ }
     requires { ⌜ m < rowsAt (now layout) columns.methodSignature ⌝ }
     ensures { λ r. let v = viewIn (now (tables .entry)) (now (layout .entry)) (now (strings .entry)) (now (blob .entry)) in
-        ⌜ Named (item (method v m .parameters) p ⟫ (λ k. nameOr5 (k .type))) (now (buf .entry)) r (now (buf .exit)) ⌝ }
+        ⌜ KnowsSignature v (now (blob .entry)) r × (r .method ≡ m + 1) × (r .read ≡ p) ⌝ }
 {
-    match read_signature(buf, tables, strings, blob, layout, m) {
+    let mut space = [0u8; 1];
+    let read = wide(p);
+    match read_signature(&mut space, 0, tables, strings, blob, layout, m) {
         Reading::Read {
             owner,
             start,
@@ -356,11 +398,19 @@ pub fn write_param_type(
             ..
         } => {
             if count <= p {
-                return buffers::refuse(buf, Refusal::NoSuchRow);
+                return Signature {
+                    method: m + 1,
+                    owner,
+                    start,
+                    len,
+                    count: wide(count),
+                    read,
+                    next,
+                };
             }
             let sig = numbers::cut(blob, start, len);
-            write_type(
-                buf,
+            let behind = skip_types(
+                &mut space,
                 tables,
                 strings,
                 blob,
@@ -369,16 +419,160 @@ pub fn write_param_type(
                 Owner::Of(2 * (m + 1) + 1),
                 sig,
                 next,
-                p as usize,
-            )
+                read,
+            );
+            Signature {
+                method: m + 1,
+                owner,
+                start,
+                len,
+                count: wide(count),
+                read,
+                next: behind,
+            }
         }
-        Reading::Missing => buffers::refuse(buf, Refusal::NoSuchRow),
+        Reading::Missing => unread_signature(m, read),
     }
+}
+
+// The same, by what is known.
+fn signature_at(
+    tables: &[u8],
+    strings: &[u8],
+    blob: &[u8],
+    layout: &Layout,
+    m: usize,
+    p: u32,
+    known: Signature,
+) -> Signature
+    requires { ⌜ Laid (now tables) (now layout) ⌝ }
+    requires { ⌜ m < rowsAt (now layout) columns.methodSignature ⌝ }
+    requires { ⌜ KnowsSignature (viewIn (now tables) (now layout) (now strings) (now blob)) (now blob) known ⌝ }
+    ensures { λ r. let v = viewIn (now (tables .entry)) (now (layout .entry)) (now (strings .entry)) (now (blob .entry)) in
+        ⌜ KnowsSignature v (now (blob .entry)) r × (r .method ≡ m + 1) × (r .read ≡ p) ⌝ }
+{
+    if known.method == m + 1 {
+        if known.read == wide(p) {
+            return known;
+        }
+    }
+    find_signature(tables, strings, blob, layout, m, p)
+}
+
+// The same, behind the types of any number of parameters.
+fn signature_of(
+    tables: &[u8],
+    strings: &[u8],
+    blob: &[u8],
+    layout: &Layout,
+    m: usize,
+    known: Signature,
+) -> Signature
+    requires { ⌜ Laid (now tables) (now layout) ⌝ }
+    requires { ⌜ m < rowsAt (now layout) columns.methodSignature ⌝ }
+    requires { ⌜ KnowsSignature (viewIn (now tables) (now layout) (now strings) (now blob)) (now blob) known ⌝ }
+    ensures { λ r. let v = viewIn (now (tables .entry)) (now (layout .entry)) (now (strings .entry)) (now (blob .entry)) in
+        ⌜ KnowsSignature v (now (blob .entry)) r × (r .method ≡ m + 1) ⌝ }
+{
+    if known.method == m + 1 {
+        return known;
+    }
+    find_signature(tables, strings, blob, layout, m, 0)
+}
+
+// One more type has been read.
+fn read_more(known: Signature, next: usize) -> Signature
+    requires { ⌜ known .read < 4294967296 ⌝ }
+    ensures { λ r. ⌜ r ≡ readMore known next ⌝ }
+{
+    Signature {
+        method: known.method,
+        owner: known.owner,
+        start: known.start,
+        len: known.len,
+        count: known.count,
+        read: known.read + 1,
+        next,
+    }
+}
+
+// What the answer for the type of parameter p of method m comes to at a place, where the types before it have been read.
+fn tell_next_type(
+    buf: &mut [u8],
+    at: usize,
+    tables: &[u8],
+    strings: &[u8],
+    blob: &[u8],
+    layout: &Layout,
+    m: usize,
+    p: u32,
+    known: Signature,
+) -> Typed
+    requires { ⌜ Laid (now tables) (now layout) ⌝ }
+    requires { ⌜ m < rowsAt (now layout) columns.methodSignature ⌝ }
+    requires { ⌜ KnowsSignature (viewIn (now tables) (now layout) (now strings) (now blob)) (now blob) known × (known .method ≡ m + 1) × (known .read ≡ p) ⌝ }
+    ensures { λ r. let v = viewIn (now (tables .entry)) (now (layout .entry)) (now (strings .entry)) (now (blob .entry)) in
+        ⌜ ToldIs (item (method v m .parameters) p ⟫ (λ k. nameOr5 (k .type))) (now (buf .entry)) at (now (buf .exit)) (r .told) ×
+        KnowsSignature v (now (blob .entry)) (r .signature) ⌝ }
+{
+    if known.count <= known.read {
+        return Typed {
+            told: Told::NoRow,
+            signature: known,
+        };
+    }
+    let sig = numbers::cut(blob, known.start, known.len);
+    match signatures::parse_sig_type(
+        buf,
+        at,
+        tables,
+        strings,
+        blob,
+        layout,
+        Owner::Of(known.owner),
+        Owner::Of(2 * (m + 1) + 1),
+        sig,
+        known.next,
+        LEVELS,
+    ) {
+        Rendering::Done(end, next) => Typed {
+            told: Told::Name(end),
+            signature: read_more(known, next),
+        },
+        Rendering::Failed(next) => Typed {
+            told: Told::Missing,
+            signature: read_more(known, next),
+        },
+    }
+}
+
+// What the answer for the type of parameter p of method m comes to at a place.
+pub fn tell_param_type(
+    buf: &mut [u8],
+    at: usize,
+    tables: &[u8],
+    strings: &[u8],
+    blob: &[u8],
+    layout: &Layout,
+    m: usize,
+    p: u32,
+    known: Signature,
+) -> Typed
+    requires { ⌜ Laid (now tables) (now layout) ⌝ }
+    requires { ⌜ m < rowsAt (now layout) columns.methodSignature ⌝ }
+    requires { ⌜ KnowsSignature (viewIn (now tables) (now layout) (now strings) (now blob)) (now blob) known ⌝ }
+    ensures { λ r. let v = viewIn (now (tables .entry)) (now (layout .entry)) (now (strings .entry)) (now (blob .entry)) in
+        ⌜ ToldIs (item (method v m .parameters) p ⟫ (λ k. nameOr5 (k .type))) (now (buf .entry)) at (now (buf .exit)) (r .told) ×
+        KnowsSignature v (now (blob .entry)) (r .signature) ⌝ }
+{
+    let signature = signature_at(tables, strings, blob, layout, m, p, known);
+    tell_next_type(buf, at, tables, strings, blob, layout, m, p, signature)
 }
 
 // Append the name of parameter p of method m (II.22.33, `parse_params`): none where the method has no ParamList column.
 fn push_param_name(
     buf: &mut [u8],
+    at: usize,
     tables: &[u8],
     strings: &[u8],
     layout: &Layout,
@@ -388,7 +582,7 @@ fn push_param_name(
     requires { ⌜ Laid (now tables) (now layout) ⌝ }
     requires { ⌜ m < rowsAt (now layout) columns.paramList ⌝ }
     ensures { λ r.
-        ⌜ ((blob : List ℕ) → Said (now (buf .entry)) 0 (now (buf .exit))
+        ⌜ ((blob : List ℕ) → Said (now (buf .entry)) at (now (buf .exit))
         (parameterName (viewIn (now (tables .entry)) (now (layout .entry)) (now (strings .entry)) blob) m p) (placeSays r)) ⌝ }
 {
     let first = rows::read_column(tables, layout, columns::PARAM_LIST, m) as usize;
@@ -397,7 +591,7 @@ fn push_param_name(
         return Place::Missing;
     }
     if rows::count_rows(layout, columns::PARAM_NAME) < first + place {
-        let end = buffers::push(buf, 0, b"P_");
+        let end = buffers::push(buf, at, b"P_");
         return Place::Next(buffers::push_decimal(buf, end, place));
     }
     match rows::read_string(
@@ -409,37 +603,39 @@ fn push_param_name(
     ) {
         Part::Found { start, len } => {
             let name = numbers::cut(strings, start, len);
-            Place::Next(buffers::push(buf, 0, name))
+            Place::Next(buffers::push(buf, at, name))
         }
-        Part::Absent(_) => Place::Next(0),
+        Part::Absent(_) => Place::Next(buffers::push(buf, at, b"")),
     }
 }
 
-// Answer a call for the name of parameter p of method m.
-pub fn write_param_name(
+// What the answer for the name of parameter p of method m comes to at a place.
+pub fn tell_param_name(
     buf: &mut [u8],
+    at: usize,
     tables: &[u8],
     strings: &[u8],
     blob: &[u8],
     layout: &Layout,
     m: usize,
     p: u32,
-) -> Reply
+    known: Signature,
+) -> Typed
     requires { ⌜ Laid (now tables) (now layout) ⌝ }
     requires { ⌜ m < rowsAt (now layout) columns.methodSignature ⌝ }
+    requires { ⌜ KnowsSignature (viewIn (now tables) (now layout) (now strings) (now blob)) (now blob) known ⌝ }
     ensures { λ r. let v = viewIn (now (tables .entry)) (now (layout .entry)) (now (strings .entry)) (now (blob .entry)) in
-        ⌜ Named (item (method v m .parameters) p ⟫ (λ k. nameOr5 (k .name))) (now (buf .entry)) r (now (buf .exit)) ⌝ }
+        ⌜ ToldIs (item (method v m .parameters) p ⟫ (λ k. nameOr5 (k .name))) (now (buf .entry)) at (now (buf .exit)) (r .told) ×
+        KnowsSignature v (now (blob .entry)) (r .signature) ⌝ }
 {
-    match read_signature(buf, tables, strings, blob, layout, m) {
-        Reading::Read { count, .. } => {
-            if count <= p {
-                return buffers::refuse(buf, Refusal::NoSuchRow);
-            }
-            match push_param_name(buf, tables, strings, layout, m, p) {
-                Place::Next(end) => buffers::finish(buf, end),
-                Place::Missing => buffers::refuse(buf, Refusal::NoName),
-            }
-        }
-        Reading::Missing => buffers::refuse(buf, Refusal::NoSuchRow),
+    let signature = signature_of(tables, strings, blob, layout, m, known);
+    if signature.count <= wide(p) {
+        return Typed {
+            told: Told::NoRow,
+            signature,
+        };
     }
+    let place = push_param_name(buf, at, tables, strings, layout, m, p);
+    let told = buffers::told_by(place);
+    Typed { told, signature }
 }

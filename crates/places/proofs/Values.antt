@@ -11,6 +11,11 @@ use Rattle.buffers.specs.Replies.{Answer, refused, value, number, nameOr5, Name
 use Rattle.buffers.specs.declared.Reply.{Reply}
 use Rattle.buffers.specs.declared.Reply.the-variants.{Is, No}
 use Rattle.buffers.specs.declared.Refusal.the-variants.{NoSuchRow}
+use Rattle.buffers.specs.Telling.{ToldIs, no-row}
+use Rattle.buffers.specs.declared.Told.{Told}
+use Rattle.buffers.specs.declared.Told.the-variants.{NoRow}
+use Rattle.buffers.proofs.Writing.{kept-same}
+use Rattle.buffers.proofs.Telling.{told-same}
 use Rattle.heaps.specs.Lookups.{string}
 use Rattle.classes.specs.declared.TypeDefRow.{TypeDefRow}
 use Rattle.layouts.specs.Kinds.{methodDef}
@@ -31,7 +36,7 @@ use Rattle.rows.proofs.Classes.{classes-are}
 use Rattle.methods.specs.Ranges.{RangeOf}
 use Rattle.keys.specs.Keyed.{FoundIs}
 use Rattle.keys.specs.declared.Row.{Row}
-use Rattle.keys.specs.declared.Row.the-variants.{At, NoRow}
+use Rattle.keys.specs.declared.Row.the-variants.{At, NoRow as NoKey}
 use Rattle.keys.proofs.Laws.{generics-found, generics-missed}
 use Rattle.places.proofs.Laws.{listed, unlisted, range-of, methods-counted}
 
@@ -127,10 +132,10 @@ module _ {t l : List ℕ} (laid : Laid t l) (strings blob : List ℕ) where
         ∙ sym (through (λ k. value (k .flags)) (at .0)
         ∙ ap (λ (r : Option (List ℕ)). value (orDefault 0 (over (rowColumns.methodFlags (sizesOf v)) r))) (method-row (optionsIn l) t strings blob i (at .1)))
 
-    pub method-name : {b b′ : List ℕ} {r : Reply} → Named (nameOr5 (string strings (cell t l columns.methodName i))) b r b′ → Named (methodName v c m) b r b′
+    pub method-name : {b b′ : List ℕ} {place : ℕ} {r : Told} → ToldIs (nameOr5 (string strings (cell t l columns.methodName i))) b place b′ r → ToldIs (methodName v c m) b place b′ r
     unfolding methodName method viewOf
     method-name n =
-        named-as (through (λ k. nameOr5 (k .name)) (at .0)
+        told-same (through (λ k. nameOr5 (k .name)) (at .0)
         ∙ ap (λ (r : Option (List ℕ)). nameOr5 (andThen r (λ bytes. string strings (rowColumns.methodName (sizesOf v) bytes))))
         (method-row (optionsIn l) t strings blob i (at .1))) n
 
@@ -138,28 +143,28 @@ module _ {t l : List ℕ} (laid : Laid t l) (strings blob : List ℕ) where
     unfolding methodGenericCount method
     method-generics e = ap value e ∙ sym (through (λ k. value (length (k .generics))) (at .0))
 
-    pub method-generic : (g : ℕ) {b b′ : List ℕ} {r : Reply} → Named (orNoRow (getElem? (v .generics (2 * (i + 1) + 1)) g) ⟫ nameOr5) b r b′
-        → Named (methodGenericName v c m g) b r b′
+    pub method-generic : (g : ℕ) {b b′ : List ℕ} {place : ℕ} {r : Told} → ToldIs (orNoRow (getElem? (v .generics (2 * (i + 1) + 1)) g) ⟫ nameOr5) b place b′ r
+        → ToldIs (methodGenericName v c m g) b place b′ r
     unfolding methodGenericName method
-    method-generic g n = named-as (through (λ k. item (k .generics) g ⟫ nameOr5) (at .0)) n
+    method-generic g n = told-same (through (λ k. item (k .generics) g ⟫ nameOr5) (at .0)) n
 
-    pub method-returns : {b b′ : List ℕ} {r : Reply} → Named (nameOr5 (method v i .returns)) b r b′ → Named (returnType v c m) b r b′
+    pub method-returns : {b b′ : List ℕ} {place : ℕ} {r : Told} → ToldIs (nameOr5 (method v i .returns)) b place b′ r → ToldIs (returnType v c m) b place b′ r
     unfolding returnType
-    method-returns n = named-as (through (λ k. nameOr5 (k .returns)) (at .0)) n
+    method-returns n = told-same (through (λ k. nameOr5 (k .returns)) (at .0)) n
 
     pub method-parameters : {x : ℕ} → x ≡ length (method v i .parameters) → Numbered (parameterCount v c m) (Is x)
     unfolding parameterCount
     method-parameters e = ap value e ∙ sym (through (λ k. value (length (k .parameters))) (at .0))
 
     -- What is asked of parameter p.
-    module _ (p : ℕ) {b b′ : List ℕ} {r : Reply} where
-      pub method-parameter-type : Named (item (method v i .parameters) p ⟫ (λ k. nameOr5 (k .type))) b r b′ → Named (parameterType v c m p) b r b′
+    module _ (p : ℕ) {b b′ : List ℕ} {place : ℕ} {r : Told} where
+      pub method-parameter-type : ToldIs (item (method v i .parameters) p ⟫ (λ k. nameOr5 (k .type))) b place b′ r → ToldIs (parameterType v c m p) b place b′ r
       unfolding parameterType
-      method-parameter-type n = named-as (ap (λ (a : Answer Method). a ⟫ (λ k. item (k .parameters) p) ⟫ (λ (x : Parameter). nameOr5 (x .type))) (at .0)) n
+      method-parameter-type n = told-same (ap (λ (a : Answer Method). a ⟫ (λ k. item (k .parameters) p) ⟫ (λ (x : Parameter). nameOr5 (x .type))) (at .0)) n
 
-      pub method-parameter-name : Named (item (method v i .parameters) p ⟫ (λ k. nameOr5 (k .name))) b r b′ → Named (parameterName v c m p) b r b′
+      pub method-parameter-name : ToldIs (item (method v i .parameters) p ⟫ (λ k. nameOr5 (k .name))) b place b′ r → ToldIs (parameterName v c m p) b place b′ r
       unfolding parameterName
-      method-parameter-name n = named-as (ap (λ (a : Answer Method). a ⟫ (λ k. item (k .parameters) p) ⟫ (λ (x : Parameter). nameOr5 (x .name))) (at .0)) n
+      method-parameter-name n = told-same (ap (λ (a : Answer Method). a ⟫ (λ k. item (k .parameters) p) ⟫ (λ (x : Parameter). nameOr5 (x .name))) (at .0)) n
 
   -- A method that is not: every call for it answers 4.
   module _ (c m : ℕ) (isn't : theMethod v c m ≡ refused (number NoSuchRow)) where
@@ -175,33 +180,34 @@ module _ {t l : List ℕ} (laid : Laid t l) (strings blob : List ℕ) where
     unfolding parameterCount
     no-method-parameters = sym (stopped (λ k. value (length (k .parameters))) isn't)
 
-    module _ {b b′ : List ℕ} {r : Reply} (n : Named (refused (number NoSuchRow)) b r b′) where
-      pub no-method-name : Named (methodName v c m) b r b′
+    module _ (b : List ℕ) (place : ℕ) where
+      pub no-method-name : ToldIs (methodName v c m) b place b NoRow
       unfolding methodName
-      no-method-name = named-as (stopped (λ k. nameOr5 (k .name)) isn't) n
+      no-method-name = no-row (stopped (λ k. nameOr5 (k .name)) isn't) (kept-same b place)
 
-      pub no-method-returns : Named (returnType v c m) b r b′
+      pub no-method-returns : ToldIs (returnType v c m) b place b NoRow
       unfolding returnType
-      no-method-returns = named-as (stopped (λ k. nameOr5 (k .returns)) isn't) n
+      no-method-returns = no-row (stopped (λ k. nameOr5 (k .returns)) isn't) (kept-same b place)
 
-      pub no-method-parameter-type : (p : ℕ) → Named (parameterType v c m p) b r b′
+      pub no-method-parameter-type : (p : ℕ) → ToldIs (parameterType v c m p) b place b NoRow
       unfolding parameterType
-      no-method-parameter-type p = named-as (ap (λ (a : Answer Method). a ⟫ (λ k. item (k .parameters) p) ⟫ (λ (x : Parameter). nameOr5 (x .type))) isn't) n
+      no-method-parameter-type p =
+          no-row (ap (λ (a : Answer Method). a ⟫ (λ k. item (k .parameters) p) ⟫ (λ (x : Parameter). nameOr5 (x .type))) isn't) (kept-same b place)
 
-      pub no-method-parameter-name : (p : ℕ) → Named (parameterName v c m p) b r b′
+      pub no-method-parameter-name : (p : ℕ) → ToldIs (parameterName v c m p) b place b NoRow
       unfolding parameterName
-      no-method-parameter-name p = named-as (ap (λ (a : Answer Method). a ⟫ (λ k. item (k .parameters) p) ⟫ (λ (x : Parameter). nameOr5 (x .name))) isn't) n
+      no-method-parameter-name p =
+          no-row (ap (λ (a : Answer Method). a ⟫ (λ k. item (k .parameters) p) ⟫ (λ (x : Parameter). nameOr5 (x .name))) isn't) (kept-same b place)
 
-      pub no-method-generic : (g : ℕ) → Named (methodGenericName v c m g) b r b′
+      pub no-method-generic : (g : ℕ) → ToldIs (methodGenericName v c m g) b place b NoRow
       unfolding methodGenericName
-      no-method-generic g = named-as (stopped (λ k. item (k .generics) g ⟫ nameOr5) isn't) n
+      no-method-generic g = no-row (stopped (λ k. item (k .generics) g ⟫ nameOr5) isn't) (kept-same b place)
 
-  -- A generic parameter that was searched for among those of an owner, and its name that answers a call.
-  module _ (owner : ℕ) {nth g : ℕ} {r : Row} (e : nth ≡ g) (found : FoundIs (cell t l columns.owner) owner (rowsAt l columns.owner) nth r) {b b′ : List ℕ} {reply : Reply} where
-    pub named-generic : {i : ℕ} → r ≡ At i → Named (nameOr5 (string strings (cell t l columns.genericName i))) b reply b′
-        → Named (orNoRow (getElem? (v .generics owner) g) ⟫ nameOr5) b reply b′
-    named-generic {i} f n = rw (← e, generics-found laid strings blob owner nth i found f .1) n
+  -- A generic parameter that was searched for among those of an owner, and what its name came to at a place.
+  module _ (owner : ℕ) {nth g : ℕ} {r : Row} (e : nth ≡ g) (found : FoundIs (cell t l columns.owner) owner (rowsAt l columns.owner) nth r) {b : List ℕ} {place : ℕ} where
+    pub told-generic : {b′ : List ℕ} {i : ℕ} {told : Told} → r ≡ At i → ToldIs (nameOr5 (string strings (cell t l columns.genericName i))) b place b′ told
+        → ToldIs (orNoRow (getElem? (v .generics owner) g) ⟫ nameOr5) b place b′ told
+    told-generic {i = i} f n = rw (← e, generics-found laid strings blob owner nth i found f .1) n
 
-    pub named-no-generic : r ≡ NoRow → Named (refused (number NoSuchRow)) b reply b′
-        → Named (orNoRow (getElem? (v .generics owner) g) ⟫ nameOr5) b reply b′
-    named-no-generic f n = rw (← e, generics-missed laid strings blob owner nth found f) n
+    pub told-no-generic : r ≡ NoKey → ToldIs (orNoRow (getElem? (v .generics owner) g) ⟫ nameOr5) b place b NoRow
+    told-no-generic f = rw (← e, generics-missed laid strings blob owner nth found f) (no-row refl (kept-same b place))

@@ -1,7 +1,6 @@
 // What the calls share: which row is meant by a class's place in the record, and by a method's place in its class, or that there is none;
 // and the names of generic parameters by their owner.
-use buffers::Refusal;
-use buffers::Reply;
+use buffers::Told;
 use classes::ClassNumber;
 use classes::TypeDefRow;
 use keys::Row;
@@ -12,7 +11,8 @@ ghost use mathlib.Core.Path.{_≡_};
 ghost use mathlib.Core.List.{List};
 ghost use Prim.Native.Nat.{ℕ, _-_, _<_};
 ghost use lib.ListN.{length, getElem?};
-ghost use Rattle.buffers.specs.Replies.{nameOr5, Named};
+ghost use Rattle.buffers.specs.Replies.{nameOr5};
+ghost use Rattle.buffers.specs.Telling.{ToldIs};
 ghost use Rattle.record.specs.Answers.{_⟫_, orNoRow};
 ghost use Rattle.rows.specs.Columns as columns;
 ghost use Rattle.rows.specs.Layout.{Laid, rowsAt, viewIn};
@@ -78,23 +78,24 @@ pub fn count_generics(tables: &[u8], layout: &Layout, owner: usize) -> usize
     keys::count_key(tables, layout, columns::OWNER, owner)
 }
 
-// Answer a call for the name of generic parameter g of an owner.
-pub fn write_generic(
+// What the answer for the name of generic parameter g of an owner comes to at a place.
+pub fn tell_generic(
     buf: &mut [u8],
+    at: usize,
     tables: &[u8],
     strings: &[u8],
     layout: &Layout,
     owner: usize,
     g: u32,
-) -> Reply
+) -> Told
     requires { ⌜ Laid (now tables) (now layout) ⌝ }
     ensures { λ r.
-        ⌜ ((blob : List ℕ) → Named
+        ⌜ ((blob : List ℕ) → ToldIs
         (orNoRow (getElem? (viewIn (now (tables .entry)) (now (layout .entry)) (now (strings .entry)) blob .generics owner) g) ⟫ nameOr5)
-        (now (buf .entry)) r (now (buf .exit))) ⌝ }
+        (now (buf .entry)) at (now (buf .exit)) r) ⌝ }
 {
     match keys::find_key(tables, layout, columns::OWNER, owner, wide(g)) {
-        Row::At(i) => rows::write_string(buf, tables, strings, layout, columns::GENERIC_NAME, i),
-        Row::NoRow => buffers::refuse(buf, Refusal::NoSuchRow),
+        Row::At(i) => rows::tell_string(buf, at, tables, strings, layout, columns::GENERIC_NAME, i),
+        Row::NoRow => Told::NoRow,
     }
 }

@@ -12,9 +12,11 @@ use lib.ListN.{length, getD}
 use Rattle.numbers.specs.Fixed.{leAt}
 use Rattle.numbers.specs.Parts.{CutOf}
 use Rattle.numbers.proofs.Parts.{cut-is}
-use Rattle.buffers.specs.Replies.{number, refused, value, nameOr5, Named}
-use Rattle.buffers.specs.declared.Refusal.the-variants.{NoName}
-use Rattle.buffers.specs.declared.Reply.{Reply}
+use Rattle.buffers.specs.Writes.{Wrote}
+use Rattle.buffers.specs.Replies.{nameOr5}
+use Rattle.buffers.specs.Telling.{ToldIs, name, missing}
+use Rattle.buffers.specs.declared.Told.the-variants.{Name, Missing}
+use Rattle.buffers.proofs.Writing.{kept-same}
 use Rattle.heaps.specs.Lookups.{stringAt, string}
 use Rattle.heaps.specs.declared.Absence.{Absence}
 use Rattle.heaps.specs.declared.Part.{Part}
@@ -117,17 +119,16 @@ module _ {t l : List ℕ} (laid : Laid t l) where
             ∙ sym (column-at (readColumn c .kind) (readColumn c .place) (sizesIn o h) e t i (s .sized) (known .1)));
       }
 
--- A string that was looked up answers a call for a name.
-module _ {b b′ : List ℕ} {r : Reply} {p : Part} where
-  pub named-string : (s : RefT (List ℕ)) (i : ℕ) {start n : ℕ} {text : RefT (List ℕ)} → p ≡ stringAt (now s) i → p ≡ Found start n
-      → CutOf text s start n → Named (value (now text)) b r b′ → Named (nameOr5 (string (now s) i)) b r b′
-  named-string s i e f c n =
-      let at = sym f ∙ e in
-      rw (string-some (now s) i at, ← (cut-is _ s _ _ (string-within (now s) i at) c .bytes)) n
+-- A string that was looked up, and what it came to at a place.
+module _ {b : List ℕ} {at : ℕ} {p : Part} where
+  pub told-string : (s : RefT (List ℕ)) (i : ℕ) {b′ : List ℕ} {start n end : ℕ} {text : RefT (List ℕ)} → p ≡ stringAt (now s) i → p ≡ Found start n
+      → CutOf text s start n → Wrote b at (now text) b′ end → ToldIs (nameOr5 (string (now s) i)) b at b′ (Name end)
+  told-string s i {text = text} e f c w =
+      let there = sym f ∙ e in
+      name (now text) (rw (string-some (now s) i there, ← (cut-is _ s _ _ (string-within (now s) i there) c .bytes)) refl) w
 
-  pub named-absent : (s : List ℕ) (i : ℕ) {why : Absence} → p ≡ stringAt s i → p ≡ Absent why
-      → Named (refused (number NoName)) b r b′ → Named (nameOr5 (string s i)) b r b′
-  named-absent s i e f n = rw (string-none s i (sym f ∙ e)) n
+  pub told-absent : (s : List ℕ) (i : ℕ) {why : Absence} → p ≡ stringAt s i → p ≡ Absent why → ToldIs (nameOr5 (string s i)) b at b Missing
+  told-absent s i e f = missing (ap nameOr5 (string-none s i (sym f ∙ e))) (kept-same b at)
 
 -- Columns of one table have the same rows.
 pub same-rows : {t l : List ℕ} → Laid t l → (c d : ℕ) → c < columns.count → d < columns.count → readColumn c .kind ≡ readColumn d .kind → rowsAt l c ≡ rowsAt l d

@@ -1,13 +1,13 @@
 // The rows of the tables (ECMA-335 II.22), read on demand: a column of a row, by the layout that opening made.
 pub mod columns;
 
-use buffers::Refusal;
-use buffers::Reply;
+use buffers::Told;
 use heaps::Part;
 ghost use mathlib.Core.Path.{_≡_};
 ghost use Prim.Native.Nat.{_<_};
 ghost use lib.Dec.{eqb};
-ghost use Rattle.buffers.specs.Replies.{nameOr5, Named};
+ghost use Rattle.buffers.specs.Replies.{nameOr5};
+ghost use Rattle.buffers.specs.Telling.{ToldIs};
 ghost use Rattle.heaps.specs.Lookups.{stringAt, string};
 ghost use Rattle.rows.specs.Columns as columns;
 ghost use Rattle.rows.specs.Layout.{Laid, rowsAt, markAt, cell};
@@ -53,26 +53,27 @@ pub fn read_string(tables: &[u8], strings: &[u8], layout: &Layout, column: usize
     heaps::get_string(strings, index as usize)
 }
 
-// Answer a call for a name by that string.
-pub fn write_string(
+// What it comes to at a place, as the answer for a name.
+pub fn tell_string(
     buf: &mut [u8],
+    at: usize,
     tables: &[u8],
     strings: &[u8],
     layout: &Layout,
     column: usize,
     i: usize,
-) -> Reply
+) -> Told
     requires { ⌜ Laid (now tables) (now layout) ⌝ }
     requires { ⌜ (column < columns.count) × (i < rowsAt (now layout) column) ⌝ }
     ensures { λ r.
-        ⌜ Named (nameOr5 (string (now (strings .entry)) (cell (now (tables .entry)) (now (layout .entry)) column i))) (now (buf .entry)) r
-        (now (buf .exit)) ⌝ }
+        ⌜ ToldIs (nameOr5 (string (now (strings .entry)) (cell (now (tables .entry)) (now (layout .entry)) column i))) (now (buf .entry)) at
+        (now (buf .exit)) r ⌝ }
 {
     match read_string(tables, strings, layout, column, i) {
         Part::Found { start, len } => {
             let text = numbers::cut(strings, start, len);
-            buffers::write_name(buf, text)
+            Told::Name(buffers::push(buf, at, text))
         }
-        Part::Absent(_) => buffers::refuse(buf, Refusal::NoName),
+        Part::Absent(_) => Told::Missing,
     }
 }

@@ -93,6 +93,14 @@ push-requires-2 c κs = search needs
 enum-told : tie.Need-enum-told
 enum-told c = search needs
 
+-- src/lib.rt:380:28
+slice-aggregate-push-2 : tie.Need-slice-aggregate-push-2
+slice-aggregate-push-2 c = search needs
+
+-- src/lib.rt:380:28
+push-requires-3 : tie.Need-push-requires-3
+push-requires-3 c κs = search needs
+
 -- src/lib.rt:348:1
 same-length-2 : tie.Need-same-length-2
 same-length-2 c = search needs
@@ -112,15 +120,21 @@ returns-3 c =
     λ blob. said-param (start .pre .0) _ blob _ (start .pre .1) (at-read-column .read-column .ensures) _ (at-if1 .if1 .left) (omega (arith, at-if2 .if2 .left, at-count-rows .count-rows .ensures)) (at-read-string .read-string .ensures) (at-start .start .given .1) (at-cut .cut .ensures) (at-push2 .push2 .ensures)
 
 -- src/lib.rt:348:1
+same-length-3 : tie.Need-same-length-3
+same-length-3 c = search needs
+
+-- src/lib.rt:348:1
 returns-4 : tie.Need-returns-4
-returns-4 c =
-    let at-read-string = c .before .before in
+returns-4 c = λ blob.
+    let at-push3 = c .before .before in
+    let at-enum-told = at-push3 .before .before .before in
+    let at-read-string = at-enum-told .before .before in
     let at-if2 = at-read-string .before in
     let at-count-rows = at-if2 .before in
     let at-if1 = at-count-rows .before in
     let at-read-column = at-if1 .before in
     let start = at-read-column .before .before .before .before in
-    λ blob. said-no-param (start .pre .0) _ blob _ (start .pre .1) (at-read-column .read-column .ensures) _ (at-if1 .if1 .left) (omega (arith, at-if2 .if2 .left, at-count-rows .count-rows .ensures)) (at-read-string .read-string .ensures) (c .enum-told .given .1) _
+    said-no-param (start .pre .0) _ blob _ (start .pre .1) (at-read-column .read-column .ensures) _ (at-if1 .if1 .left) (omega (arith, at-if2 .if2 .left, at-count-rows .count-rows .ensures)) (at-read-string .read-string .ensures) (at-enum-told .enum-told .given .1) (at-push3 .push3 .ensures)
 
 pub push-param-name-spec : {M : Type 1} → statement M
 push-param-name-spec =
@@ -143,6 +157,9 @@ push-param-name-spec =
     cut-requires
     push-requires-2
     enum-told
+    slice-aggregate-push-2
+    push-requires-3
     same-length-2
     returns-3
+    same-length-3
     returns-4)

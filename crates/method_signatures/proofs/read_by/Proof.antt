@@ -47,20 +47,20 @@ enum-known-count : tie.Need-enum-known-count
 enum-known-count c = search needs
 
 -- src/lib.rt:72:40
-add-t26 : tie.Need-add-t26
-add-t26 c =
+add-t27 : tie.Need-add-t27
+add-t27 c =
     let start = c .before .before .before .before .before .before .before .before .before .before .before .before .before .before .before .before in
     record { fits = omega (arith, start .pre .1, rows-narrow (start .pre .0) columns.methodSignature (omega arith)) }
 
 -- src/lib.rt:72:35
-mul-t27 : tie.Need-mul-t27
-mul-t27 c =
+mul-t28 : tie.Need-mul-t28
+mul-t28 c =
     let start = c .before .before .before .before .before .before .before .before .before .before .before .before .before .before .before .before in
     record { fits = omega (arith, start .pre .1, rows-narrow (start .pre .0) columns.methodSignature (omega arith)) }
 
 -- src/lib.rt:72:35
-add-t28 : tie.Need-add-t28
-add-t28 c =
+add-t29 : tie.Need-add-t29
+add-t29 c =
     let start = c .before .before .before .before .before .before .before .before .before .before .before .before .before .before .before .before in
     record { fits = omega (arith, start .pre .1, rows-narrow (start .pre .0) columns.methodSignature (omega arith)) }
 
@@ -134,7 +134,7 @@ returns-3 c =
     let at-read-column = at-get-blob .before in
     let start = at-read-column .before .before .before .before .before in
     let there = inside (start .pre .0) (start .args .strings .now) (start .args .blob .now) (start .args .m) (start .args .class .0) (start .pre .1) (at-read-column .read-column .ensures) (at-get-blob .get-blob .ensures) (at-start .start .given .1) in
-    no-start (start .pre .0) _ _ _ _ (start .pre .1) (at-read-column .read-column .ensures) (at-get-blob .get-blob .ensures) (at-start .start .given .1) (cut-is _ _ _ _ there (at-cut .cut .ensures) .bytes) _ (at-read-method-start .read-method-start .ensures) _ (c .enum-told2 .given .1)
+    no-start (start .pre .0) _ _ _ _ (start .pre .1) (at-read-column .read-column .ensures) (at-get-blob .get-blob .ensures) (at-start .start .given .1) (cut-is _ _ _ _ there (at-cut .cut .ensures) .bytes) _ (at-read-method-start .read-method-start .ensures) _ _ (c .enum-told2 .given .1)
 
 -- src/lib.rt:44:1
 returns-4 : tie.Need-returns-4
@@ -142,7 +142,7 @@ returns-4 c =
     let at-get-blob = c .before .before in
     let at-read-column = at-get-blob .before in
     let start = at-read-column .before .before .before .before .before in
-    no-blob (start .pre .0) _ _ _ _ (start .pre .1) (at-read-column .read-column .ensures) (at-get-blob .get-blob .ensures) _ (c .enum-told3 .given .1)
+    no-blob (start .pre .0) _ _ _ _ (start .pre .1) (at-read-column .read-column .ensures) (at-get-blob .get-blob .ensures) _ _ (c .enum-told3 .given .1)
 
 pub read-by-spec : {M : Type 1} → statement M
 read-by-spec =
@@ -156,9 +156,9 @@ read-by-spec =
     owner-of-requires
     read-method-start-requires
     enum-known-count
-    add-t26
-    mul-t27
-    add-t28
+    add-t27
+    mul-t28
+    add-t29
     parse-sig-type-requires
     enum-known-end
     enum-told

@@ -2,14 +2,15 @@ use mathlib.Core.Path.{_≡_, refl, _∙_}
 use Prim.Native.Nat.{_-_, _≤_}
 use native.Mathlib.Omega.{arith}
 use borrow.Author.Needs.{needs}
-use lib.ListN.{length}
+use Rattle.buffers.specs.Writes.{Kept}
+use Rattle.buffers.proofs.Writing.{kept-same}
 use Rattle.record.specs.Names.{classes}
 use Rattle.rows.specs.Columns as columns
 use Rattle.rows.specs.Layout.{viewIn}
 use Rattle.rows.proofs.Laws.{rows-narrow}
 use Rattle.rows.proofs.Classes.{classes-are}
 use Rattle.method_signatures.specs.Signatures.{ReadFrom, missing}
-use Rattle.method_signatures.proofs.Laws.{from-none, reader-is, reader-stands, reader-fails, reading-length, reading-missed, reading-stands}
+use Rattle.method_signatures.proofs.Laws.{from-none, reader-is, reader-stands, reader-fails, reading-behind, kept-twice, reading-missed, reading-stands}
 use Rattle.method_signatures.proofs.read_signature.Statement.{statement}
 use Rattle.method_signatures.proofs.read_signature.Tie as tie
 use Rattle.method_signatures.proofs.read_signature.Reads as reads
@@ -20,10 +21,10 @@ use Rattle.method_signatures.proofs.read_by.Reads as read-by-reads
 use Rattle.rows.proofs.count_rows.Reads as count-rows-reads
 
 abbrev Inv-loop : tie.InvT-loop
-Inv-loop buf₀ tables strings blob layout m n class₀ buf class = (length buf ≡ length buf₀) × ReadFrom (viewIn tables layout strings blob) m (class .0)
+Inv-loop buf₀ at tables strings blob layout m n class₀ buf class = Kept buf₀ at buf × ReadFrom (viewIn tables layout strings blob) m (class .0)
 
 abbrev μ-loop : tie.MeasureT-loop
-μ-loop buf₀ tables strings blob layout m n class₀ buf class = n - class .0
+μ-loop buf₀ at tables strings blob layout m n class₀ buf class = n - class .0
 
 -- src/lib.rt:165:9
 count-rows-requires : tie.Need-count-rows-requires Inv-loop μ-loop
@@ -37,7 +38,7 @@ first-reader-requires c κs = search needs
 loop-holds : tie.Need-loop-holds Inv-loop μ-loop
 loop-holds c =
     let start = c .before .before .before .before .before .before in
-    (refl, c .first-reader .ensures (start .args .strings .now) (start .args .blob .now))
+    (kept-same _ _, c .first-reader .ensures (start .args .strings .now) (start .args .blob .now))
 
 -- src/lib.rt:0:0
 place-of-requires : tie.Need-place-of-requires Inv-loop μ-loop
@@ -75,7 +76,7 @@ returns c =
     let v = viewIn (a .tables .now) (a .layout .now) (a .strings .now) (a .blob .now) in
     let answer = asked .next-reader .ensures (a .strings .now) (a .blob .now) in
     let is = reader-is v (a .m) (l .class .0) answer (told .reader .given .1) in
-    reading-length (l .inv .0) (reading-stands (made .read-by .ensures) (reader-stands v (a .m) (l .class .0) _ _ (l .inv .1) (is .2)) (c .before .owner .given .1))
+    reading-behind (l .inv .0) (reading-stands (made .read-by .ensures) (reader-stands v (a .m) (l .class .0) _ _ (l .inv .1) (is .2)) (c .before .owner .given .1))
 
 -- src/lib.rt:189:25
 enum-told : tie.Need-enum-told Inv-loop μ-loop
@@ -108,7 +109,7 @@ loop-again c =
     let answer = asked .next-reader .ensures (a .strings .now) (a .blob .now) in
     let is = reader-is v (a .m) (l .class .0) answer (told .reader .given .1) in
     let gone = reading-missed (made .read-by .ensures) (c .enum-told .given .1) in
-    (gone .1 ∙ l .inv .0, reader-fails v (a .m) (l .class .0) _ _ (l .inv .1) (is .2) (gone .0))
+    (kept-twice (l .inv .0) (gone .1), reader-fails v (a .m) (l .class .0) _ _ (l .inv .1) (is .2) (gone .0))
 
 -- src/lib.rt:194:17
 enum-told-2 : tie.Need-enum-told-2 Inv-loop μ-loop

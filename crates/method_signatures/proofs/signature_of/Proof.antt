@@ -1,0 +1,30 @@
+use native.Mathlib.Omega.{arith}
+use Rattle.rows.specs.Columns as columns
+use Rattle.rows.proofs.Laws.{rows-narrow}
+use borrow.Author.Needs.{needs}
+use Rattle.method_signatures.proofs.signature_of.Statement.{statement}
+use Rattle.method_signatures.proofs.signature_of.Tie as tie
+use Rattle.method_signatures.proofs.signature_of.Reads as reads
+use Rattle.method_signatures.proofs.signature_of.Lts as lts
+use Rattle.method_signatures.proofs.find_signature.Reads as find-signature-reads
+
+-- src/lib.rt:477:24
+add-if1 : tie.Need-add-if1
+add-if1 c =
+    let start = c .before .before .before in
+    record { fits = omega (arith, start .pre .1 .0, rows-narrow (start .pre .0) columns.methodSignature (omega arith)) }
+
+-- src/lib.rt:478:9
+returns : tie.Need-returns
+returns c = search needs
+
+-- src/lib.rt:480:5
+find-signature-requires : tie.Need-find-signature-requires
+find-signature-requires c κs = search needs
+
+-- src/lib.rt:463:1
+returns-2 : tie.Need-returns-2
+returns-2 c = search needs
+
+pub signature-of-spec : {M : Type 1} → statement M
+signature-of-spec = tie.close (tie.spec add-if1 returns find-signature-requires returns-2)
