@@ -25,7 +25,8 @@ use Rattle.rows.specs.Layout.{Laid, rowsAt, viewIn}
 use Rattle.rows.proofs.Laws.{rows-at, rows-narrow}
 use Rattle.rows.proofs.Classes.{classes-are}
 use Rattle.methods.specs.Ranges.{RangeOf}
-use Rattle.places.specs.Places.{ClassRowIs, at-row, no-row, MethodRowIs, at-method, no-method}
+use Rattle.places.specs.Places.{ClassRowIs, at-row, no-row, MethodRowIs, at-method, no-method, Owns}
+use Rattle.places.specs.declared.Own.{Own}
 use Rattle.places.specs.declared.ClassRow.{ClassRow}
 use Rattle.places.specs.declared.ClassRow.the-variants.{Row, NoRow}
 use Rattle.places.specs.declared.MethodRow.{MethodRow}
@@ -84,6 +85,13 @@ module _ {t l : List ℕ} (laid : Laid t l) (strings blob : List ℕ) where
 -- The range of a class by its row.
 pub range-of : {v : View} {c r first end : ℕ} → r ≡ c + 2 → RangeOf v (r - 2) first end → RangeOf v c first end
 range-of {v} {c} {r} {first} {end} e range = let i : r - 2 ≡ c = omega arith in subst (λ (k : ℕ). RangeOf v k first end) i range
+
+-- What is known of a class's methods, by its row.
+pub owns-of : {v : View} {r row first end : ℕ} → r ≡ row → RangeOf v (row - 2) first end → Owns v (record { row = r; first = first; end = end })
+owns-of {v} {first = first} {end} e range = record { range = λ _. subst (λ (k : ℕ). RangeOf v (k - 2) first end) (sym e) range }
+
+pub owned-range : {v : View} {k : Own} {c row : ℕ} → Owns v k → k .row ≡ row → row ≡ c + 2 → RangeOf v c (k .first) (k .end)
+owned-range {v} {k} {c} o e f = let i : k .row ≡ c + 2 = e ∙ f in range-of i (o .range (omega arith))
 
 -- The methods of a class are those of its range.
 module _ (v : View) (c : ℕ) {first end : ℕ} (is : theClass v c ≡ value (class v c)) (range : RangeOf v c first end) where

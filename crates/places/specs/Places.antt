@@ -1,7 +1,7 @@
 -- Which row is meant by a class's place in the record, and by a method's place in its class.
 use mathlib.Core.Path.{_≡_}
 use mathlib.Core.List.{List}
-use Prim.Native.Nat.{ℕ, _+_, _<_, _≤_}
+use Prim.Native.Nat.{ℕ, _+_, _-_, _<_, _≤_}
 use Rattle.buffers.specs.Replies.{refused, value, number}
 use Rattle.buffers.specs.declared.Refusal.the-variants.{NoSuchRow}
 use Rattle.layouts.specs.Kinds.{methodDef}
@@ -12,6 +12,8 @@ use Rattle.record.specs.Record.{method}
 use Rattle.record.specs.Answers.{theMethod}
 use Rattle.rows.specs.Columns as columns
 use Rattle.rows.specs.Layout.{rowsAt}
+use Rattle.methods.specs.Ranges.{RangeOf}
+use Rattle.places.specs.declared.Own.{Own}
 use Rattle.places.specs.declared.ClassRow.{ClassRow}
 use Rattle.places.specs.declared.ClassRow.the-variants.{Row, NoRow}
 use Rattle.places.specs.declared.MethodRow.{MethodRow}
@@ -26,3 +28,7 @@ pub data ClassRowIs (l : List ℕ) (c : ℕ) : ClassRow → Type 0 where
 pub data MethodRowIs (v : View) (c m : ℕ) : MethodRow → Type 0 where
   at-method : {i : ℕ} → theMethod v c m ≡ value (method v i) → i < rowsIn v methodDef → MethodRowIs v c m (MethodAt i)
   no-method : theMethod v c m ≡ refused (number NoSuchRow) → MethodRowIs v c m NoMethod
+
+-- What is known of a class's methods is true of the view; of row 0 it says nothing.
+pub record Owns (v : View) (k : Own) : Type 0 where
+  pub range : 0 < k .row → RangeOf v (k .row - 2) (k .first) (k .end)

@@ -9,14 +9,17 @@ use rows::Layout;
 use rows::columns;
 ghost use mathlib.Core.Path.{_≡_};
 ghost use mathlib.Core.List.{List};
-ghost use Prim.Native.Nat.{ℕ, _-_, _<_};
+ghost use Prim.Native.Nat.{ℕ, _-_, _<_, _≤_};
 ghost use lib.ListN.{length, getElem?};
-ghost use Rattle.buffers.specs.Replies.{nameOr5};
+ghost use Rattle.buffers.specs.Replies.{value, nameOr5};
 ghost use Rattle.buffers.specs.Telling.{ToldIs};
-ghost use Rattle.record.specs.Answers.{_⟫_, orNoRow};
+ghost use Rattle.record.specs.View.{View};
+ghost use Rattle.record.specs.Record.{class};
+ghost use Rattle.record.specs.Answers.{_⟫_, orNoRow, theClass};
 ghost use Rattle.rows.specs.Columns as columns;
 ghost use Rattle.rows.specs.Layout.{Laid, rowsAt, viewIn};
-ghost use Rattle.places.specs.Places.{ClassRowIs, MethodRowIs};
+ghost use Rattle.methods.specs.Ranges.{RangeOf};
+ghost use Rattle.places.specs.Places.{ClassRowIs, MethodRowIs, Owns};
 
 // The TypeDef row of a class.
 pub enum ClassRow {
@@ -28,6 +31,19 @@ pub enum ClassRow {
 pub enum MethodRow {
     Row(usize),
     NoRow,
+}
+
+// What is known of the methods of the class at a TypeDef row: they are the places of MethodDef from the first up to the end. Row 0 is none.
+pub struct Own {
+    pub row: usize,
+    pub first: usize,
+    pub end: usize,
+}
+
+// The row of a method, and what is known of its class after it.
+pub struct Placed {
+    pub row: MethodRow,
+    pub own: Own,
 }
 
 // How many classes there are: TypeDef row 1 is none.
@@ -53,20 +69,74 @@ pub fn class_row(layout: &Layout, class: ClassNumber) -> ClassRow
     ClassRow::Row(row)
 }
 
-pub fn method_row(tables: &[u8], layout: &Layout, class: ClassNumber, m: u32) -> MethodRow
+// Nothing is known.
+pub fn no_own() -> Own
+    ensures { λ r. ⌜ ((v : View) → Owns v r) ⌝ }
+{
+    Own {
+        row: 0,
+        first: 0,
+        end: 0,
+    }
+}
+
+// The methods of the class at a TypeDef row: what is known, if it is about the class.
+fn own_methods(tables: &[u8], layout: &Layout, row: TypeDefRow, known: Own) -> Own
     requires { ⌜ Laid (now tables) (now layout) ⌝ }
-    ensures { λ r. ⌜ ((strings blob : List ℕ) → MethodRowIs (viewIn (now (tables .entry)) (now (layout .entry)) strings blob) (class .0) m r) ⌝ }
+    requires { ⌜ (1 < row .0) × (row .0 ≤ rowsAt (now layout) columns.methodList) ⌝ }
+    ensures { λ r. let v = viewIn (now (tables .entry)) (now (layout .entry)) in
+        ⌜ (r .row ≡ row .0) × ((strings blob : List ℕ) → Owns (v strings blob) known → Owns (v strings blob) r) ⌝ }
+{
+    let own = wide(row.0);
+    if known.row == own {
+        return known;
+    }
+    let range = methods::method_range(tables, layout, row);
+    Own {
+        row: own,
+        first: range.first,
+        end: range.end,
+    }
+}
+
+// Method m of a class, by its methods.
+fn own_method(own: Own, m: u32) -> MethodRow
+    ensures { λ r. ⌜ ((v : View) (c : ℕ) → theClass v c ≡ value (class v c) → RangeOf v c (own .first) (own .end) → MethodRowIs v c m r) ⌝ }
+{
+    let first = own.first;
+    let end = own.end;
+    if end <= first {
+        return MethodRow::NoRow;
+    }
+    if end - first <= wide(m) {
+        return MethodRow::NoRow;
+    }
+    MethodRow::Row(first + wide(m))
+}
+
+// The row of method m of a class. Whoever asks for the next method of the class hands on what is known.
+pub fn place_method(
+    tables: &[u8],
+    layout: &Layout,
+    class: ClassNumber,
+    m: u32,
+    known: Own,
+) -> Placed
+    requires { ⌜ Laid (now tables) (now layout) ⌝ }
+    ensures { λ r. let v = viewIn (now (tables .entry)) (now (layout .entry)) in
+        ⌜ ((strings blob : List ℕ) → Owns (v strings blob) known → MethodRowIs (v strings blob) (class .0) m (r .row) × Owns
+        (v strings blob) (r .own)) ⌝ }
 {
     match class_row(layout, class) {
         ClassRow::Row(row) => {
-            let range = methods::method_range(tables, layout, row);
-            let place = range.first + wide(m);
-            if range.end <= place {
-                return MethodRow::NoRow;
-            }
-            MethodRow::Row(place)
+            let own = own_methods(tables, layout, row, known);
+            let place = own_method(own, m);
+            Placed { row: place, own }
         }
-        ClassRow::NoRow => MethodRow::NoRow,
+        ClassRow::NoRow => Placed {
+            row: MethodRow::NoRow,
+            own: known,
+        },
     }
 }
 
