@@ -1,7 +1,7 @@
 """Inputs that name one thing over and over, each also with a half and a quarter of the lines, and what ours and the Rust take. A listing
 that finds each base type of a class or each parameter of a method from the beginning takes the square.
 
-Instructions are counted by callgrind, up to an end: a listing that takes the square would take it hours. So the processor's time is measured
+Instructions are counted by callgrind, up to an end: a listing that takes the square would take hours. So the processor's time is measured
 too, the least of three where it is short. For the Rust it is user time, of as many listings in one process as make it long enough: to give
 memory takes the system longer, and is not counted. For the program it is the time of a process with what the system does. So it is not in
 our favour."""
