@@ -1,19 +1,25 @@
-"""Inputs whose listing takes us the square of what it takes the Rust, each also with half the lines, and what both take.
+"""Inputs that name one thing over and over, each also with a half and a quarter of the lines, and what ours and the Rust take. A listing
+that finds each base type of a class or each parameter of a method from the beginning takes the square.
 
-They take too long for callgrind, so it is the processor's time that is measured, the least of three where it is short. For the Rust it is
-user time, of as many listings in one process as make it long enough: to give memory takes the system longer, and is not counted. For the
-program it is the time of a process with what the system does. So it is not in our favour."""
+Instructions are counted by callgrind, up to an end: a listing that takes the square would take hours. So the processor's time is measured
+too, the least of three where it is short. For the Rust it is user time, of as many listings in one process as make it long enough: to give
+memory takes the system longer, and is not counted. For the program it is the time of a process with what the system does. So it is not in
+our favour."""
 
+import concurrent.futures
+import math
 import os
 import resource
 import subprocess
 
 from archive import fail
 from assembly import INTERFACE_IMPL, METHOD_DEF, TYPE_DEF, TYPE_SPEC, Assembly, bundle
+from counting import Run
 from dice import Dice, shortest
 
 LONG = 1  # second
 ENOUGH = 2_000_000  # lines, for the Rust
+SIDES = "fair", "listing"
 NO_CLASS = [0] * 6  # row 1 of TypeDef
 FIRST_SPEC = 1 << 2 | 2  # row 1 of TypeSpec, as TypeDefOrRef
 NAMED_SPEC = b"\x12" + shortest(FIRST_SPEC)
@@ -27,14 +33,14 @@ def interfaces(count):
     return with_class({INTERFACE_IMPL: [[2, FIRST_SPEC]] * count}, instance(26), b"")
 
 
-def methods(count, params):
-    """All methods share a signature."""
-    return with_methods(count, params, INT)
+def methods(params):
+    """All 2,500 methods share a signature."""
+    return with_methods(2500, params, INT)
 
 
-def methods_with_spec(count, params):
-    """The type of each parameter is a TypeSpec, of 10 bytes."""
-    return with_methods(count, params, NAMED_SPEC)
+def methods_with_spec(params):
+    """All 50 methods share a signature, and the type of each parameter is a TypeSpec, of 10 bytes."""
+    return with_methods(50, params, NAMED_SPEC)
 
 
 def with_methods(count, params, of_type):
@@ -58,19 +64,21 @@ def with_class(rows, spec, signature):
     return bundle(tables, bytes(made.strings), blob + shortest(len(spec)) + spec)
 
 
-def all_inputs():
-    """(name, input), in pairs: with half the lines, and whole."""
-    return [
-        ("5,000 interfaces", interfaces(5000)),
-        ("10,000 interfaces", interfaces(10000)),
-        ("2,500 methods of 1,000 parameters", methods(2500, 1000)),
-        ("2,500 methods of 2,000 parameters", methods(2500, 2000)),
-        ("50 methods of 1,000 TypeSpecs", methods_with_spec(50, 1000)),
-        ("50 methods of 2,000 TypeSpecs", methods_with_spec(50, 2000)),
-    ]
+CASES = [  # by a number, which at the full size is
+    ("{:,} interfaces", interfaces, 10000),
+    ("2,500 methods of {:,} parameters", methods, 2000),
+    ("50 methods of {:,} TypeSpecs", methods_with_spec, 2000),
+]
+SIZES = 4, 2, 1  # parts of the full size, each with half the next one's number
 
 
-# What they take.
+def all_inputs(part):
+    """(name, input), by case and size; the largest is that part of the full size."""
+    numbered = [(name, make, full // part // size) for name, make, full in CASES for size in SIZES]
+    return [(name.format(n), make(n)) for name, make, n in numbered]
+
+
+# What they take, in seconds.
 
 def seconds(command, given, to):
     """User and system time of a process. Nothing else is to be started meanwhile."""
@@ -101,29 +109,82 @@ def contents(path):
         return file.read()
 
 
-class Timed:
-    """An input's lines, and the seconds of the listing program and of the Rust; `differs` says if the listings do."""
+class Grown:
+    """An input's lines, and the seconds of the listing program and of the Rust; `differs` says if the listings do. `count_all` adds the
+    instructions of both: None where to count them took too long."""
 
     def __init__(self, bench, program, folder, name, case):
-        self.name, self.size = name, len(case)
-        given, listing, rust_listing = (os.path.join(folder, word + ".growth") for word in ("input", "listing", "rust"))
+        self.name, self.size, self.folder = name, len(case), os.path.join(folder, name.replace(" ", "_").replace(",", ""))
+        os.makedirs(self.folder)
+        given, listing, rust_listing = map(self.path, ("input", "listing", "rust"))
         with open(given, "wb") as file:
             file.write(case)
-        self.listing = least(listing_seconds, program, given, listing)
+        self.seconds = {"listing": least(listing_seconds, program, given, listing)}
         text = contents(listing)
         self.lines = text.count(b"\n")
-        self.fair = least(rust_seconds, bench, self.lines, given, rust_listing)
+        self.seconds["fair"] = least(rust_seconds, bench, self.lines, given, rust_listing)
         self.differs = text != contents(rust_listing)
+        self.instructions = {}
+        for path in (listing, rust_listing):  # some have 85 MB
+            os.remove(path)
+
+    def path(self, name):
+        return os.path.join(self.folder, name)
 
 
-def print_times(all_timed):
-    print("Where we take the square, in seconds, and by what that grows as the lines double:\n")
-    print("%-34s %6s %9s %9s %6s %9s %6s %8s" % ("input", "bytes", "lines", "the Rust", "grows", "listing", "grows", "ratio"))
-    for half, whole in zip(all_timed[::2], all_timed[1::2]):
-        print_time(half, "", "")
-        print_time(whole, "%.2f" % (whole.fair / half.fair), "%.2f" % (whole.listing / half.listing))
+# In instructions.
+
+def count(bench, program, limit, side, each):
+    given, counts = map(each.path, ("input", "callgrind." + side))
+    if side == "listing":
+        run = Run(counts, "main", ["main"], [program], contents(given), limit)
+    else:
+        run = Run(counts, "measure_fair", ["measure_fair"], [bench, "1", given, os.devnull], b"", limit)
+    each.instructions[side] = None if run.over else run.cost(0)
 
 
-def print_time(each, rust_grows, listing_grows):
-    print("%-34s %6d %9d %9.4f %6s %9.4f %6s %8.2f" % (each.name, each.size, each.lines, each.fair, rust_grows, each.listing, listing_grows,
-                                                       each.listing / each.fair))
+def count_all(bench, program, limit, all_grown):
+    """The instructions of all, each by at most so many seconds; those of most lines first, so that none is alone at the end."""
+    work = [(side, each) for each in sorted(all_grown, key=lambda each: -each.lines) for side in SIDES]
+    with concurrent.futures.ThreadPoolExecutor(os.cpu_count()) as pool:
+        list(pool.map(lambda pair: count(bench, program, limit, *pair), work))
+
+
+# What is printed.
+
+def by_case(all_grown):
+    """(each, the one of the same case with half its number, or None)."""
+    return [(each, all_grown[turn - 1] if turn % len(SIZES) else None) for turn, each in enumerate(all_grown)]
+
+
+def print_counts(all_grown, limit):
+    print("One thing over and over, in instructions, and the exponents with which they grow as its number doubles:\n")
+    columns = "%-34s %6s %9s %11s %8s %14s %8s %8s"
+    print(columns % ("input", "bytes", "lines", "the Rust", "exponent", "listing", "exponent", "ratio"))
+    for each, half in by_case(all_grown):
+        counted = [word for side in SIDES for word in (each.instructions[side] or "over %d s" % limit, exponent(each, half, side))]
+        print(columns % (each.name, each.size, each.lines, *counted, ratio(each)))
+    print()
+
+
+def exponent(each, half, side):
+    costs = [one and one.instructions[side] for one in (each, half)]
+    return "%.2f" % math.log2(costs[0] / costs[1]) if all(costs) else "-"
+
+
+def ratio(each):
+    rust, ours = (each.instructions[side] for side in SIDES)
+    return "%.2f" % (ours / rust) if rust and ours else "-"
+
+
+def print_times(all_grown):
+    print("The same in seconds, and by what they grow:\n")
+    columns = "%-34s %6s %9s %9s %6s %9s %6s %8s"
+    print(columns % ("input", "bytes", "lines", "the Rust", "grows", "listing", "grows", "ratio"))
+    for each, half in by_case(all_grown):
+        timed = [word for side in SIDES for word in ("%.4f" % each.seconds[side], grows(each, half, side))]
+        print(columns % (each.name, each.size, each.lines, *timed, "%.2f" % (each.seconds["listing"] / each.seconds["fair"])))
+
+
+def grows(each, half, side):
+    return "%.2f" % (each.seconds[side] / half.seconds[side]) if half else ""

@@ -1,4 +1,5 @@
-// The lines of the listing, appended to a lent buffer, and the cursor that goes from line to line (document 01, "The listing program").
+// The lines of the listing, appended to a lent buffer, and the cursor that goes from line to line (document 01, "The listing program"). A
+// name's line is ended where the name was written, behind its key: a name that is too long is taken back there.
 use buffers::Refusal;
 use buffers::Reply;
 use buffers::push;
@@ -12,13 +13,18 @@ ghost use mathlib.Core.List.{List, []};
 ghost use Prim.Native.Nat.{ℕ};
 ghost use lib.ListN.{length};
 ghost use Rattle.buffers.specs.Texts.{Text};
-ghost use Rattle.buffers.specs.Writes.{Wrote};
+ghost use Rattle.buffers.specs.Writes.{Wrote, Kept};
 ghost use Rattle.buffers.specs.Replies.{number, Answer, Named, replySays};
-ghost use Rattle.lines.specs.Lines.{line, longest, numberLine, refusedLine, answerLine, missingLine, nameLine, hasLine};
+ghost use Rattle.lines.specs.Lines.{line, longest, shown, numberLine, refusedLine, answerLine, missingLine, nameLine, hasLine};
+ghost use Rattle.lines.specs.Ending.{Ending};
 ghost use Rattle.lines.specs.Cursors.{cursor, first, done, nextNumber, Went};
+ghost use Rattle.lines.specs.declared.Ended.the-variants.{Unsure};
 
 // What ends a line.
 const LINE_END: u8 = b'\n';
+
+// The bytes of the longest name that is shown. For a longer one there stands `!`.
+pub const LONGEST: usize = 4096;
 
 // What the next line is about.
 pub enum Place {
@@ -49,6 +55,12 @@ pub struct Cursor {
 pub struct Step {
     pub next: Cursor,
     pub at: usize,
+}
+
+// What ending the line of a name came to: the place after the line; or that there is no room for the name, which may be too long or not.
+pub enum Ended {
+    At(usize),
+    Unsure,
 }
 
 pub fn cursor_at(place: Place, class: ClassNumber, method: u32, i: u32) -> Cursor
@@ -125,6 +137,51 @@ pub fn push_number(out: &mut [u8], at: usize, key: &[u8], n: usize) -> usize
     let start = push(out, at, key);
     let end = push_decimal(out, start, n);
     put(out, end, LINE_END)
+}
+
+// End the line of a name that was written from one place to another, behind its key.
+pub fn end_name(out: &mut [u8], start: usize, end: usize) -> Ended
+    ensures { λ r.
+        ⌜ ((o o₁ : List ℕ) (at : ℕ) (key t : Text) → Wrote o at key o₁ start → Wrote o₁ start t (now (out .entry)) end → Ending key t o at
+        start (now (out .exit)) r) ⌝ }
+{
+    if out.len() < end {
+        if out.len() < start {
+            return Ended::At(out.len() + 1);
+        }
+        if out.len() - start < LONGEST {
+            return Ended::Unsure;
+        }
+        return Ended::At(push(out, start, b"!\n"));
+    }
+    if end < start {
+        return Ended::At(put(out, end, LINE_END));
+    }
+    if LONGEST < end - start {
+        return Ended::At(push(out, start, b"!\n"));
+    }
+    Ended::At(put(out, end, LINE_END))
+}
+
+// The same of a name for which there was no room, by the place after it in a buffer of 4,096 bytes.
+pub fn end_unsure(out: &mut [u8], start: usize, end: usize) -> usize
+    ensures { λ r.
+        ⌜ ((o s s′ : List ℕ) (at : ℕ) (key t : Text) → Ending key t o at start (now (out .entry)) Unsure → length s ≡ longest → Wrote s 0 t
+        s′ end → Wrote o at (line key (shown t)) (now (out .exit)) r) ⌝ }
+{
+    if LONGEST < end {
+        return push(out, start, b"!\n");
+    }
+    out.len() + 1
+}
+
+// End the line of a name that is missing: its key stands alone.
+pub fn end_missing(out: &mut [u8], start: usize) -> usize
+    ensures { λ r.
+        ⌜ ((o o₁ : List ℕ) (at : ℕ) (key : Text) → Wrote o at key o₁ start → Kept o₁ start (now (out .entry)) → Wrote o at (line key [])
+        (now (out .exit)) r) ⌝ }
+{
+    put(out, start, LINE_END)
 }
 
 // The line of a name that was refused, by the refusal's number.
