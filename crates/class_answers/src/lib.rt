@@ -1,16 +1,28 @@
 // The answers of the calls for a class, of a stream that is opened: by its layout. The public calls open it, and so does a listing, once.
+use bases::Bases;
 use buffers::Place;
 use buffers::Refusal;
 use buffers::Reply;
+use buffers::Told;
 use classes::ClassNumber;
 use places::ClassRow;
 use rows::Layout;
 use rows::columns;
 ghost use mathlib.Core.List.{List};
+ghost use mathlib.Core.Option.{Option};
 ghost use Prim.Native.Nat.{ℕ};
-ghost use Rattle.buffers.specs.Replies.{Named};
-ghost use Rattle.record.specs.Answers.{Numbered, classFlags, className, genericCount, genericName, baseCount, baseName};
+ghost use Rattle.buffers.specs.Texts.{Text};
+ghost use Rattle.buffers.specs.Writes.{Said, placeSays};
+ghost use Rattle.buffers.specs.Telling.{ToldIs};
+ghost use Rattle.bases.specs.Candidates.{KnowsBases};
+ghost use Rattle.record.specs.Answers.{Numbered, orNoRow, classFlags, className, genericCount, genericName, baseCount, baseName};
 ghost use Rattle.rows.specs.Layout.{Laid, viewIn};
+
+// What the answer for a base type came to, and what is known of base types after it.
+pub struct ToldBase {
+    pub told: Told,
+    pub bases: Bases,
+}
 
 // The flags of a class (II.23.1.15).
 pub fn class_flags_of(tables: &[u8], layout: &Layout, class: ClassNumber) -> Reply
@@ -28,27 +40,25 @@ pub fn class_flags_of(tables: &[u8], layout: &Layout, class: ClassNumber) -> Rep
     }
 }
 
-// The full name of a class.
-pub fn write_class_name(
+// What the answer for the full name of a class comes to at a place.
+pub fn tell_class_name(
     buf: &mut [u8],
+    at: usize,
     tables: &[u8],
     strings: &[u8],
     layout: &Layout,
     class: ClassNumber,
-) -> Reply
+) -> Told
     requires { ⌜ Laid (now tables) (now layout) ⌝ }
     ensures { λ r.
-        ⌜ ((blob : List ℕ) → Named (className (viewIn (now (tables .entry)) (now (layout .entry)) (now (strings .entry)) blob) (class .0))
-        (now (buf .entry)) r (now (buf .exit))) ⌝ }
+        ⌜ ((blob : List ℕ) → ToldIs (className (viewIn (now (tables .entry)) (now (layout .entry)) (now (strings .entry)) blob) (class .0))
+        (now (buf .entry)) at (now (buf .exit)) r) ⌝ }
 {
     match places::class_row(layout, class) {
         ClassRow::Row(row) => {
-            match names::push_class_name(buf, 0, tables, strings, layout, row) {
-                Place::Next(end) => buffers::finish(buf, end),
-                Place::Missing => buffers::refuse(buf, Refusal::NoName),
-            }
+            buffers::told_by(names::push_class_name(buf, at, tables, strings, layout, row))
         }
-        ClassRow::NoRow => buffers::refuse(buf, Refusal::NoSuchRow),
+        ClassRow::NoRow => Told::NoRow,
     }
 }
 
@@ -66,26 +76,28 @@ pub fn count_generics_of(tables: &[u8], layout: &Layout, class: ClassNumber) -> 
     }
 }
 
-// The name of generic parameter g of a class.
-pub fn write_generic_name(
+// What the answer for the name of generic parameter g of a class comes to at a place.
+pub fn tell_generic_name(
     buf: &mut [u8],
+    at: usize,
     tables: &[u8],
     strings: &[u8],
     layout: &Layout,
     class: ClassNumber,
     g: u32,
-) -> Reply
+) -> Told
     requires { ⌜ Laid (now tables) (now layout) ⌝ }
     ensures { λ r.
-        ⌜ ((blob : List ℕ) → Named (genericName (viewIn (now (tables .entry)) (now (layout .entry)) (now (strings .entry)) blob) (class .0) g)
-        (now (buf .entry)) r (now (buf .exit))) ⌝ }
+        ⌜ ((blob : List ℕ) → ToldIs
+        (genericName (viewIn (now (tables .entry)) (now (layout .entry)) (now (strings .entry)) blob) (class .0) g) (now (buf .entry)) at
+        (now (buf .exit)) r) ⌝ }
 {
     match places::class_row(layout, class) {
         ClassRow::Row(row) => {
             let owner = 2 * (row.0 as usize);
-            places::write_generic(buf, tables, strings, layout, owner, g)
+            places::tell_generic(buf, at, tables, strings, layout, owner, g)
         }
-        ClassRow::NoRow => buffers::refuse(buf, Refusal::NoSuchRow),
+        ClassRow::NoRow => Told::NoRow,
     }
 }
 
@@ -107,28 +119,47 @@ pub fn count_bases_of(
     }
 }
 
-// The name of base type b of a class.
-pub fn write_base_name(
+// What the search for a base type came to, as the answer for its name.
+fn told_base(place: Place) -> Told
+    ensures { λ r. ⌜ ((o : Option Text) (b b′ : List ℕ) (at : ℕ) → Said b at b′ o (placeSays place) → ToldIs (orNoRow o) b at b′ r) ⌝ }
+{
+    match place {
+        Place::Next(end) => Told::Name(end),
+        Place::Missing => Told::NoRow,
+    }
+}
+
+// What the answer for the name of base type b of a class comes to at a place, by what is known of base types.
+pub fn tell_base_name(
     buf: &mut [u8],
+    at: usize,
     tables: &[u8],
     strings: &[u8],
     blob: &[u8],
     layout: &Layout,
     class: ClassNumber,
     b: u32,
-) -> Reply
+    known: Bases,
+) -> ToldBase
     requires { ⌜ Laid (now tables) (now layout) ⌝ }
+    requires { ⌜ KnowsBases (viewIn (now tables) (now layout) (now strings) (now blob)) known ⌝ }
     ensures { λ r. let v = viewIn (now (tables .entry)) (now (layout .entry)) (now (strings .entry)) (now (blob .entry)) in
-        ⌜ Named (baseName v (class .0) b) (now (buf .entry)) r (now (buf .exit)) ⌝ }
+        ⌜ ToldIs (baseName v (class .0) b) (now (buf .entry)) at (now (buf .exit)) (r .told) × KnowsBases v (r .bases) ⌝ }
 {
     match places::class_row(layout, class) {
         ClassRow::Row(row) => {
             let nth = b as usize;
-            match bases::render_base(buf, tables, strings, blob, layout, row, nth) {
-                Place::Next(end) => buffers::finish(buf, end),
-                Place::Missing => buffers::refuse(buf, Refusal::NoSuchRow),
+            let based = bases::push_base(buf, at, tables, strings, blob, layout, row, nth, known);
+            let place = based.place;
+            let seen = based.bases;
+            ToldBase {
+                told: told_base(place),
+                bases: seen,
             }
         }
-        ClassRow::NoRow => buffers::refuse(buf, Refusal::NoSuchRow),
+        ClassRow::NoRow => ToldBase {
+            told: Told::NoRow,
+            bases: known,
+        },
     }
 }

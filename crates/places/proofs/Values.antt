@@ -7,8 +7,7 @@ use Prim.Native.Nat.{ℕ, _+_, _-_, _*_, _≤_, _<_}
 use native.Mathlib.Omega.{arith}
 use lib.ListN.{length, getElem?}
 use Rattle.buffers.specs.Texts.{Text}
-use Rattle.buffers.specs.Replies.{Answer, refused, value, number, nameOr5, Named}
-use Rattle.buffers.specs.declared.Reply.{Reply}
+use Rattle.buffers.specs.Replies.{Answer, refused, value, number, nameOr5}
 use Rattle.buffers.specs.declared.Reply.the-variants.{Is, No}
 use Rattle.buffers.specs.declared.Refusal.the-variants.{NoSuchRow}
 use Rattle.buffers.specs.Telling.{ToldIs, no-row}
@@ -47,9 +46,6 @@ through f e = ap (λ a. a ⟫ f) e
 stopped : {A B : Type 0} {a : Answer A} (f : A → Answer B) {n : ℕ} → a ≡ refused n → (a ⟫ f) ≡ refused n
 stopped f e = ap (λ a. a ⟫ f) e
 
-named-as : {a a′ : Answer Text} {b b′ : List ℕ} {r : Reply} → a ≡ a′ → Named a′ b r b′ → Named a b r b′
-named-as e n = rw e n
-
 module _ {t l : List ℕ} (laid : Laid t l) (strings blob : List ℕ) where
   abbrev v : View
   v = viewIn t l strings blob
@@ -74,19 +70,19 @@ module _ {t l : List ℕ} (laid : Laid t l) (strings blob : List ℕ) where
         ∙ ap (λ (r : Option (List ℕ)). value (orDefault 0 (over (rowColumns.typeFlags (sizesOf v)) r)))
         (class-row (optionsIn l) t strings blob c (omega (arith, classes-are laid strings blob columns.typeName (omega arith) refl, at .1))))
 
-    pub class-name : {b b′ : List ℕ} {r : Reply} → Named (nameOr5 (classFullName v (row .0))) b r b′ → Named (className v c) b r b′
+    pub class-name : {b b′ : List ℕ} {place : ℕ} {r : Told} → ToldIs (nameOr5 (classFullName v (row .0))) b place b′ r → ToldIs (className v c) b place b′ r
     unfolding className class
-    class-name n = named-as (through (λ k. nameOr5 (k .name)) is ∙ ap (λ (i : ℕ). nameOr5 (classFullName v i)) (sym (at .0))) n
+    class-name n = told-same (through (λ k. nameOr5 (k .name)) is ∙ ap (λ (i : ℕ). nameOr5 (classFullName v i)) (sym (at .0))) n
 
     pub class-generics : {x : ℕ} → x ≡ length (v .generics (2 * row .0)) → Numbered (genericCount v c) (Is x)
     unfolding genericCount class
     class-generics e = ap value (e ∙ ap (λ (i : ℕ). length (v .generics (2 * i))) (at .0)) ∙ sym (through (λ k. value (length (k .generics))) is)
 
-    pub class-generic : (g : ℕ) {b b′ : List ℕ} {r : Reply} → Named (orNoRow (getElem? (v .generics (2 * row .0)) g) ⟫ nameOr5) b r b′
-        → Named (genericName v c g) b r b′
+    pub class-generic : (g : ℕ) {b b′ : List ℕ} {place : ℕ} {r : Told} → ToldIs (orNoRow (getElem? (v .generics (2 * row .0)) g) ⟫ nameOr5) b place b′ r
+        → ToldIs (genericName v c g) b place b′ r
     unfolding genericName class
     class-generic g n =
-        named-as (through (λ k. item (k .generics) g ⟫ nameOr5) is ∙ ap (λ (i : ℕ). orNoRow (getElem? (v .generics (2 * i)) g) ⟫ nameOr5) (sym (at .0))) n
+        told-same (through (λ k. item (k .generics) g ⟫ nameOr5) is ∙ ap (λ (i : ℕ). orNoRow (getElem? (v .generics (2 * i)) g) ⟫ nameOr5) (sym (at .0))) n
 
     pub class-methods : {first end : ℕ} → RangeOf v (row .0 - 2) first end → Numbered (methodCount v c) (Is (end - first))
     class-methods r = sym (methods-counted v c is (range-of (at .0) r))
@@ -108,14 +104,14 @@ module _ {t l : List ℕ} (laid : Laid t l) (strings blob : List ℕ) where
     unfolding methodCount
     no-class-methods = sym (stopped (λ k. value (length (k .methods))) isn't)
 
-    module _ {b b′ : List ℕ} {r : Reply} (n : Named (refused (number NoSuchRow)) b r b′) where
-      pub no-class-name : Named (className v c) b r b′
+    module _ (b : List ℕ) (place : ℕ) where
+      pub no-class-name : ToldIs (className v c) b place b NoRow
       unfolding className
-      no-class-name = named-as (stopped (λ k. nameOr5 (k .name)) isn't) n
+      no-class-name = no-row (stopped (λ k. nameOr5 (k .name)) isn't) (kept-same b place)
 
-      pub no-class-generic : (g : ℕ) → Named (genericName v c g) b r b′
+      pub no-class-generic : (g : ℕ) → ToldIs (genericName v c g) b place b NoRow
       unfolding genericName
-      no-class-generic g = named-as (stopped (λ k. item (k .generics) g ⟫ nameOr5) isn't) n
+      no-class-generic g = no-row (stopped (λ k. item (k .generics) g ⟫ nameOr5) isn't) (kept-same b place)
 
   -- A method that is listed, at a place of MethodDef.
   module _ (c m : ℕ) {i : ℕ} (at : (theMethod v c m ≡ value (method v i)) × (i < rowsIn v methodDef)) where
