@@ -27,6 +27,7 @@ use Rattle.record.specs.View.{place, otherRow}
 use Rattle.layouts.specs.Read.{readColumn}
 use Rattle.rows.specs.Columns as columns
 use Rattle.rows.specs.Layout.{optionsIn, headerIn, rowsAt, cell, Laid}
+use Rattle.rows.specs.Held.{around}
 use Rattle.rows.proofs.Laws.{rows-at, le-or-lt}
 use Rattle.keys.specs.Keyed.{OnlyIn}
 use Rattle.classes.specs.declared.TypeDefRow.{TypeDefRow}
@@ -142,6 +143,11 @@ module _ (t l : List ℕ) (i r : ℕ) where
   pub around-in : 1 < cell t l columns.nested i → 1 < cell t l columns.enclosing i → cell t l columns.nested i ≡ r → some (cell t l columns.enclosing i) ≡ aroundIn t l i r
   unfolding aroundIn
   around-in h k e = rw (lt-ltb 1 (cell t l columns.nested i) h, lt-ltb 1 (cell t l columns.enclosing i) k, eq-eqb r (cell t l columns.nested i) (sym e))
+
+  -- It is what a memory of links says of the row.
+  pub around-is : aroundIn t l i r ≡ around (cell t l columns.nested) (cell t l columns.enclosing) i r
+  unfolding aroundIn around
+  around-is = refl
 
 -- The search for the last row that puts a class around another: from row i up to the end none does.
 pub record Looking (t l : List ℕ) (end r i : ℕ) : Type 0 where
