@@ -14,20 +14,20 @@ ghost use Rattle.rows.specs.Held.{LastIs, Nested};
 ghost use Rattle.names.specs.Naming.{LastAround};
 ghost use Rattle.nests.specs.Nests.{Nesting};
 
-// The link of a class; 0 where there is no room for it.
-fn link_of(memory: &[u32], room: usize, class: usize) -> u32
+// The link of a class, by its TypeDef row as a key; 0 where there is no room for it.
+fn link_of(memory: &[u32], room: usize, key: usize) -> u32
     requires { ⌜ room ≤ length (now memory) ⌝ }
-    ensures { λ r. ⌜ (class < room → r ≡ getD (now (memory .entry)) class 0) ⌝ }
+    ensures { λ r. ⌜ (key < room → r ≡ getD (now (memory .entry)) key 0) ⌝ }
 {
-    if class < room {
-        return memory[class];
+    if key < room {
+        return memory[key];
     }
     0
 }
 
 // Link row i of NestedClass, behind those before it.
 fn nest_row(memory: &mut [u32], room: usize, i: usize, nested: usize, enclosing: usize)
-    requires { ⌜ (room + i < length (now memory)) × (i < 4294967295) ⌝ }
+    requires { ⌜ (room + i < length (now memory)) × (i < 0xFFFF_FFFF) ⌝ }
     ensures { λ _.
         ⌜ ((f g : ℕ → ℕ) (n : ℕ) → i < n → room + n ≡ length (now (memory .entry)) → nested ≡ f i → enclosing ≡ g i
         → Nesting f g n i (now (memory .entry)) → Nesting f g n (i + 1) (now (memory .exit))) ⌝ }
@@ -63,8 +63,12 @@ pub fn nest_rows(memory: &mut [u32], tables: &[u8], layout: &Layout)
     let mut i = 0;
     while i < n {
         let nested = numbers::wide(rows::read_column(tables, layout, rows::columns::NESTED, i));
-        let enclosing =
-            numbers::wide(rows::read_column(tables, layout, rows::columns::ENCLOSING, i));
+        let enclosing = numbers::wide(rows::read_column(
+            tables,
+            layout,
+            rows::columns::ENCLOSING,
+            i,
+        ));
         nest_row(memory, room, i, nested, enclosing);
         i += 1;
     }
@@ -90,8 +94,7 @@ fn linked(tables: &[u8], layout: &Layout, link: u32) -> Outer
 // Of all NestedClass rows the last that puts a class around another.
 pub fn outer_of(memory: &[u32], tables: &[u8], layout: &Layout, row: TypeDefRow) -> Outer
     requires { ⌜ Laid (now tables) (now layout) ⌝ }
-    requires {
-        ⌜ Nested (cell (now tables) (now layout) columns.nested) (cell (now tables) (now layout) columns.enclosing)
+    requires { ⌜ Nested (cell (now tables) (now layout) columns.nested) (cell (now tables) (now layout) columns.enclosing)
         (rowsAt (now layout) columns.nested) (now memory) ⌝ }
     ensures { λ r.
         ⌜ LastAround (now (tables .entry)) (now (layout .entry)) (rowsAt (now (layout .entry)) columns.nested) (row .0) r ⌝ }
@@ -109,8 +112,7 @@ pub fn outer_of(memory: &[u32], tables: &[u8], layout: &Layout, row: TypeDefRow)
 // The same of the rows before row i, for the class that row i puts around another.
 pub fn outer_at(memory: &[u32], tables: &[u8], layout: &Layout, i: usize, row: TypeDefRow) -> Outer
     requires { ⌜ Laid (now tables) (now layout) ⌝ }
-    requires {
-        ⌜ Nested (cell (now tables) (now layout) columns.nested) (cell (now tables) (now layout) columns.enclosing)
+    requires { ⌜ Nested (cell (now tables) (now layout) columns.nested) (cell (now tables) (now layout) columns.enclosing)
         (rowsAt (now layout) columns.nested) (now memory) ⌝ }
     requires { ⌜ (i < rowsAt (now layout) columns.nested) × (cell (now tables) (now layout) columns.enclosing i ≡ row .0) ⌝ }
     ensures { λ r. ⌜ LastAround (now (tables .entry)) (now (layout .entry)) i (row .0) r ⌝ }
