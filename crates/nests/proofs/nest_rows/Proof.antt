@@ -26,15 +26,15 @@ Inv-loop memory₀ tables layout n room i₀ memory i = Nesting (cell tables lay
 abbrev μ-loop : tie.MeasureT-loop
 μ-loop memory₀ tables layout n room i₀ memory i = n - i
 
--- src/lib.rt:69:9
+-- src/lib.rt:57:9
 count-rows-requires : tie.Need-count-rows-requires Inv-loop μ-loop
 count-rows-requires c κs = search needs
 
--- src/lib.rt:71:9
+-- src/lib.rt:59:9
 returns : tie.Need-returns Inv-loop μ-loop
 returns c = nest-small _ _ _ _ (omega (arith, c .before .count-rows .ensures))
 
--- src/lib.rt:73:16
+-- src/lib.rt:61:16
 sub-room : tie.Need-sub-room Inv-loop μ-loop
 sub-room c = search needs
 
@@ -44,11 +44,11 @@ slice-relend-prefix-clear-words c = search needs
 slice-aggregate-clear-words : tie.Need-slice-aggregate-clear-words Inv-loop μ-loop
 slice-aggregate-clear-words c = sym (length-take-le _ (c .before .before .before .before .before .args .memory .now) (omega arith))
 
--- src/lib.rt:74:5
+-- src/lib.rt:62:14
 clear-words-requires : tie.Need-clear-words-requires Inv-loop μ-loop
 clear-words-requires c κs = search needs
 
--- src/lib.rt:76:5
+-- src/lib.rt:64:5
 loop-holds : tie.Need-loop-holds Inv-loop μ-loop
 loop-holds c =
     let start = c .before .before .before .before .before .before .before .before in
@@ -59,39 +59,39 @@ loop-holds c =
     let long = front-length memory room (omega arith) zeros in
     (nest-start _ _ _ _ (λ k h. front-zero memory room (omega arith) zeros k (omega (arith, long, rows))), rows, omega (arith, long), refl)
 
--- src/lib.rt:77:27
+-- src/lib.rt:65:36
 read-column-requires : tie.Need-read-column-requires Inv-loop μ-loop
 read-column-requires c κs = search needs
 
--- src/lib.rt:77:13
+-- src/lib.rt:65:13
 wide-requires : tie.Need-wide-requires Inv-loop μ-loop
 wide-requires c κs = search needs
 
--- src/lib.rt:78:30
+-- src/lib.rt:65:36
 read-column-requires-2 : tie.Need-read-column-requires-2 Inv-loop μ-loop
 read-column-requires-2 c κs =
     let start = c .before .before .before .before .before .before .before .before .before .before .before .before in
     (start .pre, (omega arith, omega (arith, same-enclosing (start .pre))))
 
--- src/lib.rt:78:13
+-- src/lib.rt:65:13
 wide-requires-2 : tie.Need-wide-requires-2 Inv-loop μ-loop
 wide-requires-2 c κs = search needs
 
--- src/lib.rt:79:9
+-- src/lib.rt:72:9
 nest-row-requires : tie.Need-nest-row-requires Inv-loop μ-loop
 nest-row-requires c κs =
     let start = c .before .before .before .before .before .before .before .before .before .before .before .before .before .before .before in
     (omega arith, omega (arith, rows-narrow (start .pre) columns.nested (omega arith)))
 
--- src/lib.rt:80:9
+-- src/lib.rt:73:9
 add-i : tie.Need-add-i Inv-loop μ-loop
 add-i c = search needs
 
--- src/lib.rt:76:5
+-- src/lib.rt:64:5
 loop-less : tie.Need-loop-less Inv-loop μ-loop
 loop-less c = search needs
 
--- src/lib.rt:76:5
+-- src/lib.rt:64:5
 loop-again : tie.Need-loop-again Inv-loop μ-loop
 loop-again c =
     let l = c .before .before .before .before .before .before .before .before .before .loop in (
@@ -101,7 +101,7 @@ loop-again c =
       c .before .memory2 .given ∙ l .inv .3,
     )
 
--- src/lib.rt:65:1
+-- src/lib.rt:50:1
 same-length : tie.Need-same-length Inv-loop μ-loop
 same-length c =
     let cleared = c .before .before .before .before in
@@ -109,7 +109,7 @@ same-length c =
     let memory = start .args .memory .now in
     c .before .loop .inv .3 ∙ front-length memory (length memory - cleared .before .before .before .count-rows .result) (omega arith) (cleared .clear-words .ensures)
 
--- src/lib.rt:65:1
+-- src/lib.rt:50:1
 returns-2 : tie.Need-returns-2 Inv-loop μ-loop
 returns-2 c = nest-end _ _ _ _ (c .before .loop .i) (omega arith) (c .before .loop .inv .0)
 

@@ -10,44 +10,44 @@ use Rattle.nests.proofs.linked.Reads as linked-reads
 use Rattle.numbers.proofs.wide.Reads as wide-reads
 use Rattle.rows.proofs.count_rows.Reads as count-rows-reads
 
--- src/lib.rt:104:9
+-- src/lib.rt:102:9
 count-rows-requires : tie.Need-count-rows-requires
 count-rows-requires c κs = search needs
 
--- src/lib.rt:105:9
+-- src/lib.rt:103:9
 wide-requires : tie.Need-wide-requires
 wide-requires c κs = search needs
 
--- src/lib.rt:107:20
+-- src/lib.rt:105:20
 sub-if2 : tie.Need-sub-if2
 sub-if2 c = search needs
 
--- src/lib.rt:108:43
+-- src/lib.rt:106:43
 mul-linked : tie.Need-mul-linked
 mul-linked c = search needs
 
--- src/lib.rt:108:43
+-- src/lib.rt:106:43
 shared-slice-read-linked : tie.Need-shared-slice-read-linked
 shared-slice-read-linked c = search needs
 
--- src/lib.rt:108:13
+-- src/lib.rt:106:13
 linked-requires : tie.Need-linked-requires
 linked-requires c κs =
     let start = c .before .before .before .before .before .before .before in
     let h = head-at (start .pre .1) (c .before .before .before .wide .ensures .0) (omega (arith, c .before .before .before .before .count-rows .ensures)) in
     (start .pre .0, h .within)
 
--- src/lib.rt:108:13
+-- src/lib.rt:106:13
 returns : tie.Need-returns
 returns c =
     let start = c .before .before .before .before .before .before .before .before in
     c .linked .ensures _ _ (head-at (start .pre .1) (c .before .before .before .before .wide .ensures .0) (omega (arith, c .before .before .before .before .before .count-rows .ensures)))
 
--- src/lib.rt:111:5
+-- src/lib.rt:109:5
 last-around-requires : tie.Need-last-around-requires
 last-around-requires c κs = search needs
 
--- src/lib.rt:99:1
+-- src/lib.rt:95:1
 returns-2 : tie.Need-returns-2
 returns-2 c = rw (c .before .before .before .count-rows .ensures) at (c .last-around .ensures)
 
