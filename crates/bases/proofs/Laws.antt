@@ -25,7 +25,8 @@ use Rattle.rows.specs.Layout.{Laid, rowsAt, cell, optionsIn, headerIn, viewIn}
 use Rattle.rows.proofs.Classes.{classes-are}
 use Rattle.sig_leaves.specs.declared.Owner.the-variants.{Of, Nobody}
 use Rattle.signatures.specs.Environment.{envIn}
-use Rattle.keys.specs.Keyed.{keyed, FoundIs}
+use Rattle.rows.specs.Held.{keyed}
+use Rattle.keys.specs.Keyed.{FoundIs}
 use Rattle.keys.specs.declared.Row.{Row}
 use Rattle.keys.specs.declared.Row.the-variants.{At, NoRow}
 use Rattle.keys.proofs.Laws.{keyed-none, keyed-at-most, interfaces-count, interfaces-found, interfaces-missed, interfaces-passed}

@@ -12,7 +12,7 @@ use Rattle.record.specs.View.{View}
 use Rattle.record.specs.Names.{numberIn, classRow, classIndex, typeNameIn}
 use Rattle.rows.specs.Columns as columns
 use Rattle.rows.specs.Layout.{cell, rowsAt, viewIn}
-use Rattle.keys.specs.Keyed.{keyed}
+use Rattle.rows.specs.Held.{keyed}
 use Rattle.bases.specs.declared.Candidate.{Candidate}
 use Rattle.bases.specs.declared.Candidate.the-variants.{Index, NoCandidate}
 use Rattle.bases.specs.declared.Bases.{Bases}

@@ -20,7 +20,7 @@ ghost use Rattle.record.specs.View.{View};
 ghost use Rattle.record.specs.Names.{typeNameIn, baseTypes};
 ghost use Rattle.rows.specs.Columns as columns;
 ghost use Rattle.rows.specs.Layout.{Laid, rowsAt, cell, viewIn};
-ghost use Rattle.keys.specs.Keyed.{keyed};
+ghost use Rattle.rows.specs.Held.{keyed};
 ghost use Rattle.bases.specs.Candidates.{KnowsBases, CandidateIs};
 
 // More base types than any class has.

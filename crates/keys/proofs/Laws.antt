@@ -22,8 +22,9 @@ use Rattle.record.proofs.Keyed.{cut}
 use Rattle.layouts.specs.Read.{readColumn}
 use Rattle.rows.specs.Columns as columns
 use Rattle.rows.specs.Layout.{optionsIn, headerIn, rowsAt, cell, Ascends, Laid, viewIn}
+use Rattle.rows.specs.Held.{keyed}
 use Rattle.rows.proofs.Laws.{rows-at, ascending, le-or-lt}
-use Rattle.keys.specs.Keyed.{keyed, FoundIs, SplitAt, OnlyIn}
+use Rattle.keys.specs.Keyed.{FoundIs, SplitAt, OnlyIn}
 use Rattle.keys.specs.declared.Row.{Row}
 use Rattle.keys.specs.declared.Row.the-variants.{At, NoRow}
 

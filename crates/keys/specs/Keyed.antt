@@ -1,16 +1,10 @@
--- Rows by a key: how many rows before a place have a key, and what a search for one of them comes to.
+-- Rows by a key: what a search for one of them comes to, and among which rows they are.
 use mathlib.Core.Path.{_≡_}
-use mathlib.Core.Bool.{cond}
 use mathlib.Core.Logic.{_≢_}
-use Prim.Native.Nat.{ℕ, zero, suc, _+_, _≤_, _<_}
-use lib.Dec.{eqb}
+use Prim.Native.Nat.{ℕ, _≤_, _<_}
+use Rattle.rows.specs.Held.{keyed}
 use Rattle.keys.specs.declared.Row.{Row}
 use Rattle.keys.specs.declared.Row.the-variants.{At, NoRow}
-
--- How many of the rows below n have the key k, where f says the key of a row.
-unfoldable pub keyed : (ℕ → ℕ) → ℕ → ℕ → ℕ
-keyed f k zero = 0
-keyed f k (suc n) = cond (eqb (f n) k) (keyed f k n + 1) (keyed f k n)
 
 -- What a search among n rows for the row of a key that has so many rows of that key before it comes to.
 abbrev pub FoundIs : (ℕ → ℕ) → ℕ → ℕ → ℕ → Row → Type 0

@@ -4,7 +4,8 @@ ghost use mathlib.Core.Path.{_≡_};
 ghost use Prim.Native.Nat.{_<_, _≤_};
 ghost use Rattle.rows.specs.Columns as columns;
 ghost use Rattle.rows.specs.Layout.{Laid, Ascends, rowsAt, cell};
-ghost use Rattle.keys.specs.Keyed.{keyed, FoundIs, SplitAt, OnlyIn};
+ghost use Rattle.rows.specs.Held.{keyed};
+ghost use Rattle.keys.specs.Keyed.{FoundIs, SplitAt, OnlyIn};
 
 // A row of a table, counted from 0.
 pub enum Row {

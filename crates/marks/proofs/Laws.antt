@@ -2,14 +2,15 @@
 use mathlib.Core.Path.{_≡_, refl, sym, ap, _∙_}
 use mathlib.Core.Bool.{true, false, true≢false}
 use mathlib.Core.List.{List}
-use mathlib.Core.Logic.{_≢_, _⊎_, inl, inr, ⊎-elim}
-use Prim.Native.Nat.{ℕ, zero, suc, _+_, _-_, _*_, _≤_, _<_}
+use mathlib.Core.Logic.{⊎-elim}
+use Prim.Native.Nat.{ℕ, _+_, _-_, _*_, _≤_, _<_}
 use native.Mathlib.Nat.{eq-or-lt-of-le, eq-zero-or-pos}
 use native.Mathlib.Omega.{arith}
 use lib.ListN.{length, getD, set}
 use lib.Seq.{getD-set-other}
 use Rattle.rows.specs.Columns as columns
 use Rattle.rows.specs.Layout.{Laid, Ascends, optionsIn, markAt, rowsAt, cell, viewIn}
+use Rattle.rows.proofs.Laws.{same-or-not}
 use Rattle.marks.specs.Marks.{Tells, Marked}
 
 -- ---- The pass over a column f
@@ -55,12 +56,6 @@ pub tells-no : (f : ℕ → ℕ) (n : ℕ) → (Ascends f n → ⊥) → Tells f
 tells-no f n h = record { yes = λ z. absurd (true≢false (sym z)); no = λ _. h }
 
 -- ---- A mark that is set
-
-same-or-not : (m n : ℕ) → (m ≡ n) ⊎ (m ≢ n)
-same-or-not zero zero = inl refl
-same-or-not zero (suc n) = inr (λ e. omega arith)
-same-or-not (suc m) zero = inr (λ e. omega arith)
-same-or-not (suc m) (suc n) = ⊎-elim (λ e. inl (ap suc e)) (λ f. inr (λ e. f (omega arith))) (same-or-not m n)
 
 pub unmarked : {t l : List ℕ} → Laid t l → Marked t l l
 unmarked laid = record { laid = laid; options = refl }

@@ -1,13 +1,11 @@
 -- The ways through the leaves: a class's strings, its name, and the class that a NestedClass row puts around it. Assumes nothing.
 use mathlib.Core.Path.{_≡_, refl, sym, ap, subst, _∙_}
-use mathlib.Core.Bool.{Bool, true, false, _&&_}
 use mathlib.Core.List.{List}
 use mathlib.Core.Option.{Option, none, some}
 use mathlib.Core.Logic.{⊎-elim}
 use Prim.Native.Nat.{ℕ, _+_, _-_, _≤_, _<_, min}
 use native.Mathlib.Omega.{arith}
-use borrow.Author.Tests.{eq-eqb, ne-eqb, lt-ltb, le-ltb}
-use lib.Dec.{eqb, ltb}
+use borrow.Author.Tests.{lt-ltb, le-ltb}
 use lib.ListN.{length, take, drop, length-drop}
 use lib.Seq.{length-take-le, take-take}
 use Rattle.numbers.specs.Parts.{part}
@@ -27,7 +25,9 @@ use Rattle.record.specs.View.{place, otherRow}
 use Rattle.layouts.specs.Read.{readColumn}
 use Rattle.rows.specs.Columns as columns
 use Rattle.rows.specs.Layout.{optionsIn, headerIn, rowsAt, cell, Laid}
+use Rattle.rows.specs.Held.{around}
 use Rattle.rows.proofs.Laws.{rows-at, le-or-lt}
+use Rattle.rows.proofs.Held.{around-low as low, around-other as other, around-out as out, around-in as in-row}
 use Rattle.keys.specs.Keyed.{OnlyIn}
 use Rattle.classes.specs.declared.TypeDefRow.{TypeDefRow}
 use Rattle.names.specs.Naming.{nameText, NameInside, Shows, classString, nameIn, aroundIn, aroundSays, LastAround}
@@ -112,36 +112,29 @@ own-at t l strings r {start = start} {len} {n} s e f =
       inside = short .1;
     }
 
--- The class that a NestedClass row puts around another.
+-- The class that a NestedClass row puts around another, by the row's two numbers.
 module _ (t l : List ℕ) (i r : ℕ) where
-  abbrev acts : Bool
-  acts = ltb 1 (cell t l columns.nested i) && (ltb 1 (cell t l columns.enclosing i) && eqb r (cell t l columns.nested i))
+  abbrev inner : ℕ → ℕ
+  inner = cell t l columns.nested
 
-  nothing : acts ≡ false → none ≡ aroundIn t l i r
-  unfolding aroundIn
-  nothing e = rw e
+  abbrev outer : ℕ → ℕ
+  outer = cell t l columns.enclosing
 
-  pub around-low : cell t l columns.nested i < 2 → none ≡ aroundIn t l i r
-  around-low h = nothing (rw (le-ltb 1 (cell t l columns.nested i) (omega arith)))
+  pub around-is : around inner outer i r ≡ aroundIn t l i r
+  unfolding aroundIn around
+  around-is = refl
 
-  pub around-other : (cell t l columns.nested i ≡ r → ⊥) → none ≡ aroundIn t l i r
-  around-other h = nothing (rw (ne-eqb r (cell t l columns.nested i) (λ e. h (sym e))) (go (ltb 1 (cell t l columns.nested i)) (ltb 1 (cell t l columns.enclosing i))))
-    where
-      go : (a b : Bool) → (a && (b && false)) ≡ false
-      go true true = refl
-      go true false = refl
-      go false b = refl
+  pub around-low : inner i < 2 → none ≡ aroundIn t l i r
+  around-low h = low inner outer i r h ∙ around-is
 
-  pub around-out : cell t l columns.enclosing i < 2 → none ≡ aroundIn t l i r
-  around-out h = nothing (rw (le-ltb 1 (cell t l columns.enclosing i) (omega arith)) (go (ltb 1 (cell t l columns.nested i))))
-    where
-      go : (a : Bool) → (a && false) ≡ false
-      go true = refl
-      go false = refl
+  pub around-other : (inner i ≡ r → ⊥) → none ≡ aroundIn t l i r
+  around-other h = other inner outer i r h ∙ around-is
 
-  pub around-in : 1 < cell t l columns.nested i → 1 < cell t l columns.enclosing i → cell t l columns.nested i ≡ r → some (cell t l columns.enclosing i) ≡ aroundIn t l i r
-  unfolding aroundIn
-  around-in h k e = rw (lt-ltb 1 (cell t l columns.nested i) h, lt-ltb 1 (cell t l columns.enclosing i) k, eq-eqb r (cell t l columns.nested i) (sym e))
+  pub around-out : outer i < 2 → none ≡ aroundIn t l i r
+  around-out h = out inner outer i r h ∙ around-is
+
+  pub around-in : 1 < inner i → 1 < outer i → inner i ≡ r → some (outer i) ≡ aroundIn t l i r
+  around-in h k e = in-row inner outer i r h k e ∙ around-is
 
 -- The search for the last row that puts a class around another: from row i up to the end none does.
 pub record Looking (t l : List ℕ) (end r i : ℕ) : Type 0 where

@@ -115,7 +115,7 @@ fn least(a: usize, b: usize) -> usize
 }
 
 // Of the rows before an end the last that puts a class around another. Only rows whose nested class it is can.
-fn last_around(tables: &[u8], layout: &Layout, end: usize, row: TypeDefRow) -> Outer
+pub fn last_around(tables: &[u8], layout: &Layout, end: usize, row: TypeDefRow) -> Outer
     requires { ⌜ Laid (now tables) (now layout) ⌝ }
     requires { ⌜ end ≤ rowsAt (now layout) columns.nested ⌝ }
     ensures { λ r. ⌜ LastAround (now (tables .entry)) (now (layout .entry)) end (row .0) r ⌝ }

@@ -5,7 +5,7 @@ use mathlib.Core.List.{List, [], _∷_, _++_}
 use Prim.Native.Nat.{ℕ, zero, suc, _+_, _*_, _≤_, _<_}
 use native.Mathlib.Nat.{le-of-suc-le-suc, not-suc-le-zero, mul-le-mul-right, suc-mul}
 use native.Mathlib.Omega.{arith}
-use mathlib.Core.Logic.{_⊎_, inl, inr, ⊎-elim}
+use mathlib.Core.Logic.{_≢_, _⊎_, inl, inr, ⊎-elim}
 use denote.Ref.{RefT, now}
 use lib.Dec.{T, ltb, ltb→lt, eqb, eqb→eq}
 use lib.ListN.{length, getD}
@@ -166,3 +166,10 @@ pub le-or-lt : (m n : ℕ) → (m ≤ n) ⊎ (n < m)
 le-or-lt zero n = inl (omega arith)
 le-or-lt (suc m) zero = inr (omega arith)
 le-or-lt (suc m) (suc n) = ⊎-elim (λ h. inl (omega arith)) (λ h. inr (omega arith)) (le-or-lt m n)
+
+-- A number is another, or is not.
+pub same-or-not : (m n : ℕ) → (m ≡ n) ⊎ (m ≢ n)
+same-or-not zero zero = inl refl
+same-or-not zero (suc n) = inr (λ e. omega arith)
+same-or-not (suc m) zero = inr (λ e. omega arith)
+same-or-not (suc m) (suc n) = ⊎-elim (λ e. inl (ap suc e)) (λ f. inr (λ e. f (omega arith))) (same-or-not m n)

@@ -3,7 +3,7 @@ use Prim.Native.Nat.{_-_, _≤_}
 use native.Mathlib.Omega.{arith}
 use borrow.Author.Needs.{needs}
 use Rattle.rows.specs.Layout.{rowsAt, cell}
-use Rattle.keys.specs.Keyed.{keyed}
+use Rattle.rows.specs.Held.{keyed}
 use Rattle.keys.proofs.Laws.{keyed-at-most, scan-over, key-met, key-passed}
 use Rattle.keys.proofs.find_key_from.Statement.{statement}
 use Rattle.keys.proofs.find_key_from.Tie as tie
