@@ -3,7 +3,6 @@
 use buffers::Place;
 use classes::TypeDefRow;
 use numbers::wide;
-use rows::Layout;
 use rows::columns;
 use sig_leaves::LEVELS;
 use sig_leaves::Owner;
@@ -35,7 +34,7 @@ fn render_type(
     tables: &[u8],
     strings: &[u8],
     blob: &[u8],
-    layout: &Layout,
+    layout: &[u32],
     row: TypeDefRow,
     index: u32,
 ) -> Place
@@ -65,7 +64,7 @@ fn render_candidate(
     tables: &[u8],
     strings: &[u8],
     blob: &[u8],
-    layout: &Layout,
+    layout: &[u32],
     row: TypeDefRow,
     i: usize,
 ) -> Place
@@ -92,7 +91,7 @@ fn has_name(
     tables: &[u8],
     strings: &[u8],
     blob: &[u8],
-    layout: &Layout,
+    layout: &[u32],
     row: TypeDefRow,
     i: usize,
 ) -> bool
@@ -112,7 +111,7 @@ pub fn count_bases(
     tables: &[u8],
     strings: &[u8],
     blob: &[u8],
-    layout: &Layout,
+    layout: &[u32],
     row: TypeDefRow,
 ) -> usize
     requires { ⌜ Laid (now tables) (now layout) ⌝ }
@@ -141,7 +140,7 @@ pub fn render_base(
     tables: &[u8],
     strings: &[u8],
     blob: &[u8],
-    layout: &Layout,
+    layout: &[u32],
     row: TypeDefRow,
     nth: usize,
 ) -> Place

@@ -4,7 +4,6 @@ use buffers::Refusal;
 use buffers::Reply;
 use classes::ClassNumber;
 use places::ClassRow;
-use rows::Layout;
 use rows::columns;
 ghost use mathlib.Core.List.{List};
 ghost use Prim.Native.Nat.{ℕ};
@@ -13,7 +12,7 @@ ghost use Rattle.record.specs.Answers.{Numbered, classFlags, className, generic
 ghost use Rattle.rows.specs.Layout.{Laid, viewIn};
 
 // The flags of a class (II.23.1.15).
-pub fn class_flags_of(tables: &[u8], layout: &Layout, class: ClassNumber) -> Reply
+pub fn class_flags_of(tables: &[u8], layout: &[u32], class: ClassNumber) -> Reply
     requires { ⌜ Laid (now tables) (now layout) ⌝ }
     ensures { λ r.
         ⌜ ((strings blob : List ℕ) → Numbered (classFlags (viewIn (now (tables .entry)) (now (layout .entry)) strings blob) (class .0)) r) ⌝ }
@@ -33,7 +32,7 @@ pub fn write_class_name(
     buf: &mut [u8],
     tables: &[u8],
     strings: &[u8],
-    layout: &Layout,
+    layout: &[u32],
     class: ClassNumber,
 ) -> Reply
     requires { ⌜ Laid (now tables) (now layout) ⌝ }
@@ -53,7 +52,7 @@ pub fn write_class_name(
 }
 
 // How many generic parameters a class has (II.22.20).
-pub fn count_generics_of(tables: &[u8], layout: &Layout, class: ClassNumber) -> Reply
+pub fn count_generics_of(tables: &[u8], layout: &[u32], class: ClassNumber) -> Reply
     requires { ⌜ Laid (now tables) (now layout) ⌝ }
     ensures { λ r.
         ⌜ ((strings blob : List ℕ) → Numbered (genericCount (viewIn (now (tables .entry)) (now (layout .entry)) strings blob) (class .0)) r) ⌝ }
@@ -71,7 +70,7 @@ pub fn write_generic_name(
     buf: &mut [u8],
     tables: &[u8],
     strings: &[u8],
-    layout: &Layout,
+    layout: &[u32],
     class: ClassNumber,
     g: u32,
 ) -> Reply
@@ -94,7 +93,7 @@ pub fn count_bases_of(
     tables: &[u8],
     strings: &[u8],
     blob: &[u8],
-    layout: &Layout,
+    layout: &[u32],
     class: ClassNumber,
 ) -> Reply
     requires { ⌜ Laid (now tables) (now layout) ⌝ }
@@ -113,7 +112,7 @@ pub fn write_base_name(
     tables: &[u8],
     strings: &[u8],
     blob: &[u8],
-    layout: &Layout,
+    layout: &[u32],
     class: ClassNumber,
     b: u32,
 ) -> Reply

@@ -7,7 +7,6 @@ use classes::ClassNumber;
 use heaps::Part;
 use numbers::Uint;
 use rendering::Rendering;
-use rows::Layout;
 use rows::columns;
 use sig_leaves::LEVELS;
 use sig_leaves::Owner;
@@ -55,7 +54,7 @@ fn read_by(
     tables: &[u8],
     strings: &[u8],
     blob: &[u8],
-    layout: &Layout,
+    layout: &[u32],
     m: usize,
     class: ClassNumber,
 ) -> Reading
@@ -111,7 +110,7 @@ fn has_method(first: usize, end: usize, m: usize) -> bool
 
 // A class before which none reads method m. Where MethodList is known to ascend, that is the last whose first method lies at or below m:
 // the last row whose column is at most m + 1.
-fn first_reader(tables: &[u8], layout: &Layout, m: usize) -> ClassNumber
+fn first_reader(tables: &[u8], layout: &[u32], m: usize) -> ClassNumber
     requires { ⌜ Laid (now tables) (now layout) ⌝ }
     requires { ⌜ m < rowsAt (now layout) columns.methodSignature ⌝ }
     ensures { λ r. ⌜ ((strings blob : List ℕ) → ReadFrom (viewIn (now (tables .entry)) (now (layout .entry)) strings blob) m (r .0)) ⌝ }
@@ -127,7 +126,7 @@ fn first_reader(tables: &[u8], layout: &Layout, m: usize) -> ClassNumber
 
 // The first class from one on that reads method m. A class reads from its first method up to that of the next class whose MethodList
 // column is not 0, so it is known to read m once that one is met.
-fn next_reader(tables: &[u8], layout: &Layout, m: usize, from: ClassNumber) -> ClassReader
+fn next_reader(tables: &[u8], layout: &[u32], m: usize, from: ClassNumber) -> ClassReader
     requires { ⌜ Laid (now tables) (now layout) ⌝ }
     requires { ⌜ m < rowsAt (now layout) columns.methodSignature ⌝ }
     ensures { λ r. ⌜ ((strings blob : List ℕ) → ReaderIs (viewIn (now (tables .entry)) (now (layout .entry)) strings blob) m (from .0) r) ⌝ }
@@ -160,7 +159,7 @@ pub fn read_signature(
     tables: &[u8],
     strings: &[u8],
     blob: &[u8],
-    layout: &Layout,
+    layout: &[u32],
     m: usize,
 ) -> Reading
     requires { ⌜ Laid (now tables) (now layout) ⌝ }
@@ -210,7 +209,7 @@ pub fn write_return_type(
     tables: &[u8],
     strings: &[u8],
     blob: &[u8],
-    layout: &Layout,
+    layout: &[u32],
     m: usize,
 ) -> Reply
     requires { ⌜ Laid (now tables) (now layout) ⌝ }
@@ -225,7 +224,7 @@ pub fn write_return_type(
 }
 
 // How many parameters method m has. The text of its return type goes to a buffer of one byte, since only its length is counted.
-pub fn count_params(tables: &[u8], strings: &[u8], blob: &[u8], layout: &Layout, m: usize) -> usize
+pub fn count_params(tables: &[u8], strings: &[u8], blob: &[u8], layout: &[u32], m: usize) -> usize
     requires { ⌜ Laid (now tables) (now layout) ⌝ }
     requires { ⌜ m < rowsAt (now layout) columns.methodSignature ⌝ }
     ensures { λ r. let v = viewIn (now (tables .entry)) (now (layout .entry)) (now (strings .entry)) (now (blob .entry)) in
@@ -244,7 +243,7 @@ fn skip_types(
     tables: &[u8],
     strings: &[u8],
     blob: &[u8],
-    layout: &Layout,
+    layout: &[u32],
     class: Owner,
     method: Owner,
     sig: &[u8],
@@ -289,7 +288,7 @@ fn write_type(
     tables: &[u8],
     strings: &[u8],
     blob: &[u8],
-    layout: &Layout,
+    layout: &[u32],
     class: Owner,
     method: Owner,
     sig: &[u8],
@@ -337,7 +336,7 @@ pub fn write_param_type(
     tables: &[u8],
     strings: &[u8],
     blob: &[u8],
-    layout: &Layout,
+    layout: &[u32],
     m: usize,
     p: u32,
 ) -> Reply
@@ -381,7 +380,7 @@ fn push_param_name(
     buf: &mut [u8],
     tables: &[u8],
     strings: &[u8],
-    layout: &Layout,
+    layout: &[u32],
     m: usize,
     p: u32,
 ) -> Place
@@ -421,7 +420,7 @@ pub fn write_param_name(
     tables: &[u8],
     strings: &[u8],
     blob: &[u8],
-    layout: &Layout,
+    layout: &[u32],
     m: usize,
     p: u32,
 ) -> Reply

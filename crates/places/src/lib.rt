@@ -6,7 +6,6 @@ use classes::ClassNumber;
 use classes::TypeDefRow;
 use keys::Row;
 use numbers::wide;
-use rows::Layout;
 use rows::columns;
 ghost use mathlib.Core.Path.{_≡_};
 ghost use mathlib.Core.List.{List};
@@ -31,14 +30,14 @@ pub enum MethodRow {
 }
 
 // How many classes there are: TypeDef row 1 is none.
-pub fn count_classes(layout: &Layout) -> usize
+pub fn count_classes(layout: &[u32]) -> usize
     ensures { λ r. ⌜ r ≡ rowsAt (now (layout .entry)) columns.typeName - 1 ⌝ }
 {
     let n = rows::count_rows(layout, columns::TYPE_NAME);
     if n == 0 { 0 } else { n - 1 }
 }
 
-pub fn class_row(layout: &Layout, class: ClassNumber) -> ClassRow
+pub fn class_row(layout: &[u32], class: ClassNumber) -> ClassRow
     requires { ⌜ rowsAt (now layout) columns.typeName < 4294967296 ⌝ }
     ensures { λ r. ⌜ ClassRowIs (now (layout .entry)) (class .0) r ⌝ }
 {
@@ -53,7 +52,7 @@ pub fn class_row(layout: &Layout, class: ClassNumber) -> ClassRow
     ClassRow::Row(row)
 }
 
-pub fn method_row(tables: &[u8], layout: &Layout, class: ClassNumber, m: u32) -> MethodRow
+pub fn method_row(tables: &[u8], layout: &[u32], class: ClassNumber, m: u32) -> MethodRow
     requires { ⌜ Laid (now tables) (now layout) ⌝ }
     ensures { λ r. ⌜ ((strings blob : List ℕ) → MethodRowIs (viewIn (now (tables .entry)) (now (layout .entry)) strings blob) (class .0) m r) ⌝ }
 {
@@ -71,7 +70,7 @@ pub fn method_row(tables: &[u8], layout: &Layout, class: ClassNumber, m: u32) ->
 }
 
 // How many generic parameters an owner has, by the Owner column as stored.
-pub fn count_generics(tables: &[u8], layout: &Layout, owner: usize) -> usize
+pub fn count_generics(tables: &[u8], layout: &[u32], owner: usize) -> usize
     requires { ⌜ Laid (now tables) (now layout) ⌝ }
     ensures { λ r. ⌜ ((strings blob : List ℕ) → r ≡ length (viewIn (now (tables .entry)) (now (layout .entry)) strings blob .generics owner)) ⌝ }
 {
@@ -83,7 +82,7 @@ pub fn write_generic(
     buf: &mut [u8],
     tables: &[u8],
     strings: &[u8],
-    layout: &Layout,
+    layout: &[u32],
     owner: usize,
     g: u32,
 ) -> Reply
