@@ -9,7 +9,7 @@ use numbers::wide;
 use rows::columns;
 ghost use mathlib.Core.Path.{_≡_};
 ghost use mathlib.Core.List.{List};
-ghost use Prim.Native.Nat.{ℕ, _-_, _<_};
+ghost use Prim.Native.Nat.{ℕ, _-_, _≤_, _<_};
 ghost use lib.ListN.{length, getElem?};
 ghost use Rattle.buffers.specs.Replies.{nameOr5, Named};
 ghost use Rattle.record.specs.Answers.{_⟫_, orNoRow};

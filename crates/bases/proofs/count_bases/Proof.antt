@@ -41,14 +41,14 @@ key-rows-requires c κs = search needs
 add-n : tie.Need-add-n Inv-loop μ-loop
 add-n c =
     let keyed = c .before in
-    let start = keyed .before .before .before .before .before in
+    let start = keyed .before .before .before .before .before .before in
     record { fits = omega (arith, keyed .key-rows .ensures .within, rows-narrow (start .pre .0) columns.implClass (omega arith)) }
 
 -- src/lib.rt:127:5
 loop-holds : tie.Need-loop-holds Inv-loop μ-loop
 loop-holds c =
     let keyed = c .before in
-    let start = keyed .before .before .before .before .before in
+    let start = keyed .before .before .before .before .before .before in
     let o = keyed .key-rows .ensures in
     (omega arith, omega (arith, o .within), omega (arith, o .order), omega arith, omega (arith, o .within, rows-narrow (start .pre .0) columns.implClass (omega arith)), none-named _)
 
@@ -77,7 +77,7 @@ loop-again c =
     let tried = c .before .before in
     let l = tried .before .before .loop in
     let keyed = tried .before .before .before .before in
-    let start = keyed .before .before .before .before .before in
+    let start = keyed .before .before .before .before .before .before in
     let next = next-bounds _ (l .i) _ (l .inv .2) (tried .before .loop-test .taken) (c .before .next-candidate .ensures) in (
       next .1,
       l .inv .1,
@@ -101,7 +101,7 @@ loop-again-2 c =
     let tried = c .before .before in
     let l = tried .before .before .loop in
     let keyed = tried .before .before .before .before in
-    let start = keyed .before .before .before .before .before in
+    let start = keyed .before .before .before .before .before .before in
     let next = next-bounds _ (l .i) _ (l .inv .2) (tried .before .loop-test .taken) (c .before .next-candidate .ensures) in (
       next .1,
       l .inv .1,
@@ -117,7 +117,7 @@ returns : tie.Need-returns Inv-loop μ-loop
 returns c =
     let l = c .before .loop in
     let keyed = c .before .before .before in
-    let start = keyed .before .before .before .before .before in
+    let start = keyed .before .before .before .before .before .before in
     let all = own-all (start .pre .0) _ _ _ (start .pre .1 .0) (keyed .before .wide .ensures .0) (keyed .key-rows .ensures) {i = l .i} (omega (arith, c .loop-test .left, l .inv .0)) (l .inv .5) in
     bases-counted (start .pre .0) _ _ _ (start .pre .1 .0) (start .pre .1 .1) _ _ refl all refl
 

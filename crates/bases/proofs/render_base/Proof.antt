@@ -44,14 +44,14 @@ key-rows-requires c κs = search needs
 add-n : tie.Need-add-n Inv-loop μ-loop
 add-n c =
     let keyed = c .before in
-    let start = keyed .before .before .before .before .before .before in
+    let start = keyed .before .before .before .before .before .before .before in
     record { fits = omega (arith, keyed .key-rows .ensures .within, rows-narrow (start .pre .0) columns.implClass (omega arith)) }
 
 -- src/lib.rt:156:5
 loop-holds : tie.Need-loop-holds Inv-loop μ-loop
 loop-holds c =
     let keyed = c .before in
-    let start = keyed .before .before .before .before .before .before in
+    let start = keyed .before .before .before .before .before .before .before in
     let o = keyed .key-rows .ensures in
     (omega arith, omega (arith, o .within), omega (arith, o .order), omega arith, omega arith, omega (arith, o .within, rows-narrow (start .pre .0) columns.implClass (omega arith)), refl, none-named _)
 
@@ -80,7 +80,7 @@ returns c =
     let next = rendered .before .before in
     let l = next .before .before .loop in
     let keyed = next .before .before .before .before in
-    let start = keyed .before .before .before .before .before .before in
+    let start = keyed .before .before .before .before .before .before .before in
     base-found (start .pre .0) _ _ _ (start .pre .1 .0) (start .pre .1 .1) _ (l .i) refl (l .inv .7) _ (l .inv .6)
     (omega (arith, next .before .loop-test .taken, l .inv .1)) (c .if1 .taken) (rw (ap placeSays (c .before .before .end .given .1)) at (rendered .render-candidate .ensures))
 
@@ -106,7 +106,7 @@ loop-again c =
     let next = rendered .before .before in
     let l = next .before .before .loop in
     let keyed = next .before .before .before .before in
-    let start = keyed .before .before .before .before .before .before in
+    let start = keyed .before .before .before .before .before .before .before in
     let bounds = next-bounds _ (l .i) _ (l .inv .2) (next .before .loop-test .taken) (next .next-candidate .ensures) in
     let said = rw (ap placeSays (c .before .before .end .given .1)) at (rendered .render-candidate .ensures) in (
       bounds .1,
@@ -141,7 +141,7 @@ loop-again-2 c =
     let next = rendered .before .before in
     let l = next .before .before .loop in
     let keyed = next .before .before .before .before in
-    let start = keyed .before .before .before .before .before .before in
+    let start = keyed .before .before .before .before .before .before .before in
     let bounds = next-bounds _ (l .i) _ (l .inv .2) (next .before .loop-test .taken) (next .next-candidate .ensures) in
     let said = rw (ap placeSays (c .enum-told .given .1)) at (rendered .render-candidate .ensures) in (
       bounds .1,
@@ -164,7 +164,7 @@ returns-2 : tie.Need-returns-2 Inv-loop μ-loop
 returns-2 c =
     let l = c .before .loop in
     let keyed = c .before .before .before in
-    let start = keyed .before .before .before .before .before .before in
+    let start = keyed .before .before .before .before .before .before .before in
     let all = own-all (start .pre .0) _ _ _ (start .pre .1 .0) (keyed .before .wide .ensures .0) (keyed .key-rows .ensures) {i = l .i} (omega (arith, c .loop-test .left, l .inv .0)) (l .inv .7) in
     base-past (start .pre .0) _ _ _ (start .pre .1 .0) (start .pre .1 .1) _ _ refl all _ (l .inv .6) refl (l .inv .4)
 

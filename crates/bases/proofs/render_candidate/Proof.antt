@@ -23,7 +23,7 @@ sub-place c = search needs
 -- src/lib.rt:78:13
 read-column-requires : tie.Need-read-column-requires
 read-column-requires c κs =
-    let s = c .before .before .before .before .before .before in
+    let s = c .before .before .before .before .before .before .before in
     (s .pre .0, (omega arith, omega (arith, c .wide .ensures .0, s .pre .1 .0, s .pre .1 .1, same-rows (s .pre .0) columns.typeName columns.extends (omega arith) (omega arith) refl)))
 
 -- src/lib.rt:79:9
@@ -37,7 +37,7 @@ same-length c = search needs
 -- src/lib.rt:79:9
 returns : tie.Need-returns
 returns c =
-    let s = c .before .before .before .before .before .before .before .before .before .before .before in
+    let s = c .before .before .before .before .before .before .before .before .before .before .before .before in
     said-extended (s .pre .0) _ _ _ (s .pre .1 .0) _ _ (c .before .before .before .before .before .before .if1 .taken) (omega (arith, c .before .before .before .before .before .wide .ensures .0)) (c .before .before .before .before .read-column .ensures) (c .before .before .render-type .ensures)
 
 -- src/lib.rt:81:63
@@ -51,7 +51,7 @@ read-column-requires-2 c κs = search needs
 -- src/lib.rt:82:9
 returns-2 : tie.Need-returns-2
 returns-2 c =
-    let s = c .before .before .before .before .before .before .before .before in
+    let s = c .before .before .before .before .before .before .before .before .before in
     said-other (s .pre .0) _ _ _ (s .pre .1 .0) _ (c .before .before .before .if1 .left) (c .before .before .read-column2 .ensures) (c .if2 .taken)
 
 -- src/lib.rt:84:80
@@ -61,7 +61,7 @@ sub-read-column-2 c = search needs
 -- src/lib.rt:84:9
 read-column-requires-3 : tie.Need-read-column-requires-3
 read-column-requires-3 c κs =
-    let s = c .before .before .before .before .before .before .before .before in
+    let s = c .before .before .before .before .before .before .before .before .before in
     (s .pre .0, (omega arith, omega (arith, same-rows (s .pre .0) columns.implClass columns.implInterface (omega arith) (omega arith) refl)))
 
 -- src/lib.rt:85:5
@@ -75,7 +75,7 @@ same-length-2 c = search needs
 -- src/lib.rt:63:1
 returns-3 : tie.Need-returns-3
 returns-3 c =
-    let s = c .before .before .before .before .before .before .before .before .before .before .before .before .before in
+    let s = c .before .before .before .before .before .before .before .before .before .before .before .before .before .before in
     said-interface (s .pre .0) _ _ _ (s .pre .1 .0) _ (c .before .before .before .before .before .before .before .before .if1 .left) (c .before .before .before .before .before .before .before .read-column2 .ensures) (c .before .before .before .before .before .if2 .left) (c .before .before .before .before .read-column3 .ensures) (c .before .before .render-type2 .ensures)
 
 pub render-candidate-spec : {M : Type 1} → statement M

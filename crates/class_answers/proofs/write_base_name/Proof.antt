@@ -17,7 +17,7 @@ use Rattle.rows.specs.Columns as columns
 
 -- src/lib.rt:116:11
 class-row-requires : tie.Need-class-row-requires
-class-row-requires c κs = rows-narrow (c .before .before .before .before .pre) columns.typeName (omega arith)
+class-row-requires c κs = (rows-narrow (c .before .before .before .before .before .pre) columns.typeName (omega arith), c .before .before .before .before .before .pre .size)
 
 -- src/lib.rt:117:23
 enum-known-row : tie.Need-enum-known-row
@@ -27,7 +27,7 @@ enum-known-row c = search needs
 render-base-requires : tie.Need-render-base-requires
 render-base-requires c κs =
     let at = class-found (c .before .before .before .before .class-row .ensures) (c .before .before .row .given .1) in
-    (c .before .before .before .before .before .before .before .before .before .pre, (omega (arith, at .0), omega (arith, at .0, at .1)))
+    (c .before .before .before .before .before .before .before .before .before .before .pre, (omega (arith, at .0), omega (arith, at .0, at .1)))
 
 -- src/lib.rt:120:29
 enum-known-end : tie.Need-enum-known-end
@@ -60,7 +60,7 @@ same-length c = search needs
 -- src/lib.rt:104:1
 returns : tie.Need-returns
 returns c =
-    class-base (c .before .before .before .before .before .before .before .before .before .before .before .before .before .before .before .before .before .before .before .pre) _ _ _ (class-found (c .before .before .before .before .before .before .before .before .before .before .before .before .before .before .class-row .ensures) (c .before .before .before .before .before .before .before .before .before .before .before .before .row .given .1)) _
+    class-base (c .before .before .before .before .before .before .before .before .before .before .before .before .before .before .before .before .before .before .before .before .pre) _ _ _ (class-found (c .before .before .before .before .before .before .before .before .before .before .before .before .before .before .class-row .ensures) (c .before .before .before .before .before .before .before .before .before .before .before .before .row .given .1)) _
     (rw (ap placeSays (c .before .before .before .before .before .end .given .1)) at (c .before .before .before .before .before .before .before .before .before .render-base .ensures)) (c .before .before .finish .ensures)
 
 -- src/lib.rt:104:1
@@ -70,7 +70,7 @@ same-length-2 c = search needs
 -- src/lib.rt:104:1
 returns-2 : tie.Need-returns-2
 returns-2 c =
-    class-no-base (c .before .before .before .before .before .before .before .before .before .before .before .before .before .before .before .before .before .before .pre) _ _ _ (class-found (c .before .before .before .before .before .before .before .before .before .before .before .before .before .class-row .ensures) (c .before .before .before .before .before .before .before .before .before .before .before .row .given .1)) _
+    class-no-base (c .before .before .before .before .before .before .before .before .before .before .before .before .before .before .before .before .before .before .before .pre) _ _ _ (class-found (c .before .before .before .before .before .before .before .before .before .before .before .before .before .class-row .ensures) (c .before .before .before .before .before .before .before .before .before .before .before .row .given .1)) _
     (rw (ap placeSays (c .before .before .before .before .enum-told .given .1)) at (c .before .before .before .before .before .before .before .before .render-base .ensures)) (c .before .before .refuse .ensures)
 
 -- src/lib.rt:104:1
@@ -79,7 +79,7 @@ same-length-3 c = search needs
 
 -- src/lib.rt:104:1
 returns-3 : tie.Need-returns-3
-returns-3 c = no-class-base (c .before .before .before .before .before .before .before .before .before .before .before .pre) _ _ _ (class-missed (c .before .before .before .before .before .before .class-row .ensures) (c .before .before .before .before .enum-told2 .given .1)) _ (c .before .before .refuse2 .ensures)
+returns-3 c = no-class-base (c .before .before .before .before .before .before .before .before .before .before .before .before .pre) _ _ _ (class-missed (c .before .before .before .before .before .before .class-row .ensures) (c .before .before .before .before .enum-told2 .given .1)) _ (c .before .before .refuse2 .ensures)
 
 pub write-base-name-spec : {M : Type 1} → statement M
 write-base-name-spec =

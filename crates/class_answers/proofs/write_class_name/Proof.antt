@@ -18,7 +18,7 @@ use Rattle.rows.specs.Columns as columns
 
 -- src/lib.rt:41:11
 class-row-requires : tie.Need-class-row-requires
-class-row-requires c κs = rows-narrow (c .before .before .before .pre) columns.typeName (omega arith)
+class-row-requires c κs = (rows-narrow (c .before .before .before .before .pre) columns.typeName (omega arith), c .before .before .before .before .pre .size)
 
 -- src/lib.rt:42:23
 enum-known-row : tie.Need-enum-known-row
@@ -61,7 +61,7 @@ returns : tie.Need-returns
 returns c = λ blob.
     let push = c .before .before .before .before .before .before .before .before .before in
     let found = push .before .before .before .before .before in
-    class-name (found .before .before .before .before .pre) _ blob _ (class-found (found .class-row .ensures) (push .before .before .before .row .given .1))
+    class-name (found .before .before .before .before .before .pre) _ blob _ (class-found (found .class-row .ensures) (push .before .before .before .row .given .1))
     (named-some (rw (ap placeSays (c .before .before .before .before .before .end .given .1)) at (push .push-class-name .ensures blob)) (c .before .before .finish .ensures))
 
 -- src/lib.rt:31:1
@@ -73,7 +73,7 @@ returns-2 : tie.Need-returns-2
 returns-2 c = λ blob.
     let push = c .before .before .before .before .before .before .before .before in
     let found = push .before .before .before .before .before in
-    class-name (found .before .before .before .before .pre) _ blob _ (class-found (found .class-row .ensures) (push .before .before .before .row .given .1))
+    class-name (found .before .before .before .before .before .pre) _ blob _ (class-found (found .class-row .ensures) (push .before .before .before .row .given .1))
     (named-none (rw (ap placeSays (c .before .before .before .before .enum-told .given .1)) at (push .push-class-name .ensures blob)) (c .before .before .refuse .ensures))
 
 -- src/lib.rt:31:1
@@ -82,7 +82,7 @@ same-length-3 c = search needs
 
 -- src/lib.rt:31:1
 returns-3 : tie.Need-returns-3
-returns-3 c = λ blob. no-class-name (c .before .before .before .before .before .before .before .before .before .before .pre) _ blob _ (class-missed (c .before .before .before .before .before .before .class-row .ensures) (c .before .before .before .before .enum-told2 .given .1)) (c .before .before .refuse2 .ensures)
+returns-3 c = λ blob. no-class-name (c .before .before .before .before .before .before .before .before .before .before .before .pre) _ blob _ (class-missed (c .before .before .before .before .before .before .class-row .ensures) (c .before .before .before .before .enum-told2 .given .1)) (c .before .before .refuse2 .ensures)
 
 pub write-class-name-spec : {M : Type 1} → statement M
 write-class-name-spec =

@@ -14,7 +14,7 @@ use Rattle.rows.specs.Columns as columns
 
 -- src/lib.rt:77:11
 class-row-requires : tie.Need-class-row-requires
-class-row-requires c κs = rows-narrow (c .before .before .before .pre) columns.typeName (omega arith)
+class-row-requires c κs = (rows-narrow (c .before .before .before .before .pre) columns.typeName (omega arith), c .before .before .before .before .pre .size)
 
 -- src/lib.rt:78:23
 enum-known-row : tie.Need-enum-known-row
@@ -47,7 +47,7 @@ same-length c = search needs
 -- src/lib.rt:66:1
 returns : tie.Need-returns
 returns c = λ blob.
-    class-generic (c .before .before .before .before .before .before .before .before .before .before .before .before .pre) _ blob _ (class-found (c .before .before .before .before .before .before .before .before .class-row .ensures) (c .before .before .before .before .before .before .row .given .1)) _ (c .before .before .write-generic .ensures blob)
+    class-generic (c .before .before .before .before .before .before .before .before .before .before .before .before .before .pre) _ blob _ (class-found (c .before .before .before .before .before .before .before .before .class-row .ensures) (c .before .before .before .before .before .before .row .given .1)) _ (c .before .before .write-generic .ensures blob)
 
 -- src/lib.rt:66:1
 same-length-2 : tie.Need-same-length-2
@@ -55,7 +55,7 @@ same-length-2 c = search needs
 
 -- src/lib.rt:66:1
 returns-2 : tie.Need-returns-2
-returns-2 c = λ blob. no-class-generic (c .before .before .before .before .before .before .before .before .before .before .pre) _ blob _ (class-missed (c .before .before .before .before .before .before .class-row .ensures) (c .before .before .before .before .enum-told .given .1)) (c .before .before .refuse .ensures) _
+returns-2 c = λ blob. no-class-generic (c .before .before .before .before .before .before .before .before .before .before .before .pre) _ blob _ (class-missed (c .before .before .before .before .before .before .class-row .ensures) (c .before .before .before .before .enum-told .given .1)) (c .before .before .refuse .ensures) _
 
 pub write-generic-name-spec : {M : Type 1} → statement M
 write-generic-name-spec =

@@ -45,7 +45,7 @@ returns c =
 -- src/lib.rt:403:19
 push-param-name-requires : tie.Need-push-param-name-requires
 push-param-name-requires c κs =
-    let start = c .before .before .before .before .before .before .before .before .before .before .before .before .before in
+    let start = c .before .before .before .before .before .before .before .before .before .before .before .before .before .before in
     (start .pre .0, omega (arith, start .pre .1, same-rows (start .pre .0) columns.methodSignature columns.paramList (omega arith) (omega arith) refl))
 
 -- src/lib.rt:404:29
@@ -85,7 +85,7 @@ returns-2 c =
     let at-if1 = at-push-param-name .before .before in
     let at-count = at-if1 .before .before in
     let at-read-signature = at-count .before .before .before .before in
-    let start = at-read-signature .before .before .before .before .before .before in
+    let start = at-read-signature .before .before .before .before .before .before .before in
     let a = start .args in
     parameter-named (made (at-read-signature .read-signature .ensures) (at-count .count .given .1)) _ (omega (arith, at-if1 .if1 .left)) (named-some (rw (ap placeSays (at-end .end .given .1)) at (at-push-param-name .push-param-name .ensures (a .blob .now))) (at-finish .finish .ensures))
 
@@ -102,7 +102,7 @@ returns-3 c =
     let at-if1 = at-push-param-name .before .before in
     let at-count = at-if1 .before .before in
     let at-read-signature = at-count .before .before .before .before in
-    let start = at-read-signature .before .before .before .before .before .before in
+    let start = at-read-signature .before .before .before .before .before .before .before in
     let a = start .args in
     parameter-named (made (at-read-signature .read-signature .ensures) (at-count .count .given .1)) _ (omega (arith, at-if1 .if1 .left)) (named-none (rw (ap placeSays (at-enum-told .enum-told .given .1)) at (at-push-param-name .push-param-name .ensures (a .blob .now))) (at-refuse2 .refuse2 .ensures))
 

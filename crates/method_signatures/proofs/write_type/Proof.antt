@@ -48,7 +48,7 @@ returns c =
     let at-end = at-finish .before .before .before in
     let at-parse-sig-type = at-end .before .before .before .before in
     let at-skip-types = at-parse-sig-type .before .before .before .before in
-    let start = at-skip-types .before .before .before .before .before .before .before in
+    let start = at-skip-types .before .before .before .before .before .before .before .before in
     let a = start .args in
     let T = type (envIn (a .tables .now) (a .layout .now) (a .strings .now) (a .blob .now) (a .class) (a .method)) levels in
     named-length (at-skip-types .skip-types .ensures .1) (named-some (said-type T (a .sig .now) (at-skip-types .skip-types .ensures .0) (at-parse-sig-type .parse-sig-type .ensures) (at-end .end .given .1)) (at-finish .finish .ensures))
@@ -64,7 +64,7 @@ returns-2 c =
     let at-enum-told = at-refuse .before .before in
     let at-parse-sig-type = at-enum-told .before .before .before .before in
     let at-skip-types = at-parse-sig-type .before .before .before .before in
-    let start = at-skip-types .before .before .before .before .before .before .before in
+    let start = at-skip-types .before .before .before .before .before .before .before .before in
     let a = start .args in
     let T = type (envIn (a .tables .now) (a .layout .now) (a .strings .now) (a .blob .now) (a .class) (a .method)) levels in
     named-length (at-skip-types .skip-types .ensures .1) (named-none (said-no-type T (a .sig .now) (at-skip-types .skip-types .ensures .0) (at-parse-sig-type .parse-sig-type .ensures) (at-enum-told .enum-told .given .1)) (at-refuse .refuse .ensures))

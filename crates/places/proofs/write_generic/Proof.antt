@@ -27,7 +27,7 @@ enum-known-i c = search needs
 -- src/lib.rt:98:23
 write-string-requires : tie.Need-write-string-requires
 write-string-requires c κs =
-    let s = c .before .before .before .before .before .before .before .before .before in
+    let s = c .before .before .before .before .before .before .before .before .before .before in
     (s .pre, (omega arith, generics-found (s .pre) [] [] _ _ _ (c .before .before .before .before .find-key .ensures) (c .before .before .i .given .1) .0))
 
 -- src/lib.rt:99:39
@@ -46,7 +46,7 @@ same-length c = search needs
 returns : tie.Need-returns
 returns c = λ blob.
     let find = c .before .before .before .before .before .before .before in
-    named-generic (c .before .before .before .before .before .before .before .before .before .before .before .before .pre) _ blob _ (find .before .wide .ensures .0) (find .find-key .ensures) (c .before .before .before .before .before .i .given .1) (c .before .before .write-string .ensures)
+    named-generic (c .before .before .before .before .before .before .before .before .before .before .before .before .before .pre) _ blob _ (find .before .wide .ensures .0) (find .find-key .ensures) (c .before .before .before .before .before .i .given .1) (c .before .before .write-string .ensures)
 
 -- src/lib.rt:86:1
 same-length-2 : tie.Need-same-length-2
@@ -56,7 +56,7 @@ same-length-2 c = search needs
 returns-2 : tie.Need-returns-2
 returns-2 c = λ blob.
     let find = c .before .before .before .before .before .before in
-    named-no-generic (c .before .before .before .before .before .before .before .before .before .before .before .pre) _ blob _ (find .before .wide .ensures .0) (find .find-key .ensures) (c .before .before .before .before .enum-told .given .1) (c .before .before .refuse .ensures)
+    named-no-generic (c .before .before .before .before .before .before .before .before .before .before .before .before .pre) _ blob _ (find .before .wide .ensures .0) (find .find-key .ensures) (c .before .before .before .before .enum-told .given .1) (c .before .before .refuse .ensures)
 
 pub write-generic-spec : {M : Type 1} → statement M
 write-generic-spec =
