@@ -64,9 +64,9 @@ pub turn : {all l : List ℕ} {c : ℕ} → Filled all l (columns.numbers * c) �
     → v3 ≡ getD all (columns.numbers * c + columns.width) 0
     → v4 ≡ getD all (columns.numbers * c + columns.rows) 0
     → Filled all
-        (set (set (set (set (set l (columns.numbers * c) v0) (columns.numbers * c + columns.startHigh) v1)
-        (columns.numbers * c + columns.step) v2) (columns.numbers * c + columns.width) v3) (columns.numbers * c + columns.rows) v4)
-        (columns.numbers * (c + 1))
+    (set (set (set (set (set l (columns.numbers * c) v0) (columns.numbers * c + columns.startHigh) v1)
+    (columns.numbers * c + columns.step) v2) (columns.numbers * c + columns.width) v3) (columns.numbers * c + columns.rows) v4)
+    (columns.numbers * (c + 1))
 turn {all} {l} {c} f h {v0} {v1} {v2} {v3} {v4} e0 e1 e2 e3 e4 =
     let at : ℕ = columns.numbers * c in
     let a = put f (omega arith) v0 e0 in

@@ -65,14 +65,7 @@ fn kept_rows(kind: usize, rows: u32, count: u32) -> u32
 }
 
 // Lays out a stream of that length, opened with these options, with what its header says.
-fn lay(
-    layout: &mut [u32],
-    len: usize,
-    first: usize,
-    heap: u8,
-    counts: &[u32; 64],
-    options: Options,
-)
+fn lay(layout: &mut [u32], len: usize, first: usize, heap: u8, counts: &[u32; 64], options: Options)
     requires { ⌜ (first ≤ len) × (len < 9223372036854775808) ⌝ }
     requires { ⌜ now layout ≡ replicate columns.size 0 ⌝ }
     ensures { λ _.
