@@ -2,7 +2,6 @@
 use buffers::Reply;
 use questions::NameQuestion;
 use questions::NumberQuestion;
-use rows::Layout;
 ghost use Rattle.buffers.specs.Replies.{Named};
 ghost use Rattle.record.specs.Answers.{Numbered, numberAnswer, nameAnswer};
 ghost use Rattle.rows.specs.Layout.{Laid, viewIn};
@@ -13,7 +12,7 @@ pub fn answer_number(
     tables: &[u8],
     strings: &[u8],
     blob: &[u8],
-    layout: &Layout,
+    layout: &[u32],
     question: NumberQuestion,
 ) -> Reply
     requires { ⌜ Laid (now tables) (now layout) ⌝ }
@@ -44,7 +43,7 @@ pub fn answer_name(
     tables: &[u8],
     strings: &[u8],
     blob: &[u8],
-    layout: &Layout,
+    layout: &[u32],
     question: NameQuestion,
 ) -> Reply
     requires { ⌜ Laid (now tables) (now layout) ⌝ }

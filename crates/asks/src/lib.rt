@@ -21,7 +21,7 @@ pub fn ask_number(
     ensures { λ r. let v = view options (now (tables .entry)) (now (strings .entry)) (now (blob .entry)) in
         ⌜ Numbered (numberAnswer (numberCall question) v) r ⌝ }
 {
-    let mut layout = [0usize; columns::SIZE];
+    let mut layout = [0u32; columns::SIZE];
     match opening::open(tables, options, &mut layout) {
         Opened::Refused(why) => Reply::No(why),
         Opened::Ready => answers::answer_number(tables, strings, blob, &layout, question),
@@ -40,7 +40,7 @@ pub fn ask_name(
     ensures { λ r. let v = view options (now (tables .entry)) (now (strings .entry)) (now (blob .entry)) in
         ⌜ Named (nameAnswer (nameCall question) v) (now (buf .entry)) r (now (buf .exit)) ⌝ }
 {
-    let mut layout = [0usize; columns::SIZE];
+    let mut layout = [0u32; columns::SIZE];
     match opening::open(tables, options, &mut layout) {
         Opened::Refused(why) => buffers::refuse(buf, why),
         Opened::Ready => { answers::answer_name(buf, tables, strings, blob, &layout, question) }

@@ -5,7 +5,6 @@ use buffers::Place;
 use classes::TypeDefRow;
 use keys::Row;
 use numbers::wide;
-use rows::Layout;
 use rows::columns;
 use sig_leaves::LEVELS;
 use sig_leaves::Owner;
@@ -75,7 +74,7 @@ fn bases_before(row: usize, nth: usize, known: Bases) -> Bases
 // Candidate i of a class, by a place of InterfaceImpl before which so many rows are the class's own.
 fn candidate_at(
     tables: &[u8],
-    layout: &Layout,
+    layout: &[u32],
     row: TypeDefRow,
     i: usize,
     from: usize,
@@ -116,7 +115,7 @@ fn push_type(
     tables: &[u8],
     strings: &[u8],
     blob: &[u8],
-    layout: &Layout,
+    layout: &[u32],
     row: TypeDefRow,
     index: u32,
 ) -> Place
@@ -147,7 +146,7 @@ pub fn push_base(
     tables: &[u8],
     strings: &[u8],
     blob: &[u8],
-    layout: &Layout,
+    layout: &[u32],
     row: TypeDefRow,
     nth: usize,
     known: Bases,
@@ -219,7 +218,7 @@ pub fn count_bases(
     tables: &[u8],
     strings: &[u8],
     blob: &[u8],
-    layout: &Layout,
+    layout: &[u32],
     row: TypeDefRow,
 ) -> usize
     requires { ⌜ Laid (now tables) (now layout) ⌝ }

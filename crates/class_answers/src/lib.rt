@@ -6,7 +6,6 @@ use buffers::Reply;
 use buffers::Told;
 use classes::ClassNumber;
 use places::ClassRow;
-use rows::Layout;
 use rows::columns;
 ghost use mathlib.Core.List.{List};
 ghost use mathlib.Core.Option.{Option};
@@ -25,7 +24,7 @@ pub struct ToldBase {
 }
 
 // The flags of a class (II.23.1.15).
-pub fn class_flags_of(tables: &[u8], layout: &Layout, class: ClassNumber) -> Reply
+pub fn class_flags_of(tables: &[u8], layout: &[u32], class: ClassNumber) -> Reply
     requires { ⌜ Laid (now tables) (now layout) ⌝ }
     ensures { λ r.
         ⌜ ((strings blob : List ℕ) → Numbered (classFlags (viewIn (now (tables .entry)) (now (layout .entry)) strings blob) (class .0)) r) ⌝ }
@@ -46,7 +45,7 @@ pub fn tell_class_name(
     at: usize,
     tables: &[u8],
     strings: &[u8],
-    layout: &Layout,
+    layout: &[u32],
     class: ClassNumber,
 ) -> Told
     requires { ⌜ Laid (now tables) (now layout) ⌝ }
@@ -63,7 +62,7 @@ pub fn tell_class_name(
 }
 
 // How many generic parameters a class has (II.22.20).
-pub fn count_generics_of(tables: &[u8], layout: &Layout, class: ClassNumber) -> Reply
+pub fn count_generics_of(tables: &[u8], layout: &[u32], class: ClassNumber) -> Reply
     requires { ⌜ Laid (now tables) (now layout) ⌝ }
     ensures { λ r.
         ⌜ ((strings blob : List ℕ) → Numbered (genericCount (viewIn (now (tables .entry)) (now (layout .entry)) strings blob) (class .0)) r) ⌝ }
@@ -82,7 +81,7 @@ pub fn tell_generic_name(
     at: usize,
     tables: &[u8],
     strings: &[u8],
-    layout: &Layout,
+    layout: &[u32],
     class: ClassNumber,
     g: u32,
 ) -> Told
@@ -106,7 +105,7 @@ pub fn count_bases_of(
     tables: &[u8],
     strings: &[u8],
     blob: &[u8],
-    layout: &Layout,
+    layout: &[u32],
     class: ClassNumber,
 ) -> Reply
     requires { ⌜ Laid (now tables) (now layout) ⌝ }
@@ -136,7 +135,7 @@ pub fn tell_base_name(
     tables: &[u8],
     strings: &[u8],
     blob: &[u8],
-    layout: &Layout,
+    layout: &[u32],
     class: ClassNumber,
     b: u32,
     known: Bases,

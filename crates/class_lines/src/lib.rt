@@ -11,7 +11,6 @@ use lines::Place;
 use lines::Step;
 use lines::cursor_at;
 use lines::next_number;
-use rows::Layout;
 ghost use mathlib.Core.Path.{_≡_};
 ghost use Prim.Native.Nat.{ℕ};
 ghost use lib.ListN.{length};
@@ -60,7 +59,7 @@ pub fn classes_line(
     tables: &[u8],
     strings: &[u8],
     blob: &[u8],
-    layout: &Layout,
+    layout: &[u32],
     out: &mut [u8],
     at: usize,
 ) -> Step
@@ -83,7 +82,7 @@ pub fn class_line(
     tables: &[u8],
     strings: &[u8],
     blob: &[u8],
-    layout: &Layout,
+    layout: &[u32],
     class: ClassNumber,
     name: &mut [u8],
     out: &mut [u8],
@@ -105,7 +104,7 @@ pub fn flags_line(
     tables: &[u8],
     strings: &[u8],
     blob: &[u8],
-    layout: &Layout,
+    layout: &[u32],
     class: ClassNumber,
     out: &mut [u8],
     at: usize,
@@ -129,7 +128,7 @@ pub fn generic_line(
     tables: &[u8],
     strings: &[u8],
     blob: &[u8],
-    layout: &Layout,
+    layout: &[u32],
     class: ClassNumber,
     i: u32,
     name: &mut [u8],
@@ -152,7 +151,7 @@ pub fn base_line(
     tables: &[u8],
     strings: &[u8],
     blob: &[u8],
-    layout: &Layout,
+    layout: &[u32],
     class: ClassNumber,
     i: u32,
     name: &mut [u8],

@@ -20,7 +20,7 @@ pub struct Span {
 }
 
 // How many rows have a lesser key, in a column that ascends.
-pub fn count_below(tables: &[u8], layout: &rows::Layout, column: usize, key: usize) -> usize
+pub fn count_below(tables: &[u8], layout: &[u32], column: usize, key: usize) -> usize
     requires { ⌜ Laid (now tables) (now layout) ⌝ }
     requires { ⌜ (column < columns.count) × Ascends (cell (now tables) (now layout) column) (rowsAt (now layout) column) ⌝ }
     ensures { λ r. ⌜ SplitAt (cell (now (tables .entry)) (now (layout .entry)) column) key (rowsAt (now (layout .entry)) column) r ⌝ }
@@ -39,7 +39,7 @@ pub fn count_below(tables: &[u8], layout: &rows::Layout, column: usize, key: usi
 }
 
 // Rows among which are all that have the key: all rows, unless the column is known to ascend.
-pub fn key_rows(tables: &[u8], layout: &rows::Layout, column: usize, key: usize) -> Span
+pub fn key_rows(tables: &[u8], layout: &[u32], column: usize, key: usize) -> Span
     requires { ⌜ Laid (now tables) (now layout) ⌝ }
     requires { ⌜ column < columns.count ⌝ }
     ensures { λ r.
@@ -58,7 +58,7 @@ pub fn key_rows(tables: &[u8], layout: &rows::Layout, column: usize, key: usize)
 }
 
 // How many rows have the key.
-pub fn count_key(tables: &[u8], layout: &rows::Layout, column: usize, key: usize) -> usize
+pub fn count_key(tables: &[u8], layout: &[u32], column: usize, key: usize) -> usize
     requires { ⌜ Laid (now tables) (now layout) ⌝ }
     requires { ⌜ column < columns.count ⌝ }
     ensures { λ r. ⌜ r ≡ keyed (cell (now (tables .entry)) (now (layout .entry)) column) key (rowsAt (now (layout .entry)) column) ⌝ }
@@ -78,7 +78,7 @@ pub fn count_key(tables: &[u8], layout: &rows::Layout, column: usize, key: usize
 }
 
 // The row of the key that has nth rows of that key before it.
-pub fn find_key(tables: &[u8], layout: &rows::Layout, column: usize, key: usize, nth: usize) -> Row
+pub fn find_key(tables: &[u8], layout: &[u32], column: usize, key: usize, nth: usize) -> Row
     requires { ⌜ Laid (now tables) (now layout) ⌝ }
     requires { ⌜ column < columns.count ⌝ }
     ensures { λ r. ⌜ FoundIs (cell (now (tables .entry)) (now (layout .entry)) column) key (rowsAt (now (layout .entry)) column) nth r ⌝ }
@@ -89,7 +89,7 @@ pub fn find_key(tables: &[u8], layout: &rows::Layout, column: usize, key: usize,
 // The same, by one who knows how many rows of the key are before some row: the search goes on from there.
 pub fn find_key_from(
     tables: &[u8],
-    layout: &rows::Layout,
+    layout: &[u32],
     column: usize,
     key: usize,
     nth: usize,

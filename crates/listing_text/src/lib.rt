@@ -7,7 +7,6 @@ use header::Options;
 use lines::Cursor;
 use lines::Place;
 use lines::Step;
-use rows::Layout;
 use rows::columns;
 ghost use mathlib.Core.Path.{_≡_};
 ghost use mathlib.Core.List.{List};
@@ -50,7 +49,7 @@ fn next_line(
     strings: &[u8],
     blob: &[u8],
     options: Options,
-    layout: &Layout,
+    layout: &[u32],
     c: Cursor,
     name: &mut [u8],
     out: &mut [u8],
@@ -133,7 +132,7 @@ fn fill_opened(
     strings: &[u8],
     blob: &[u8],
     options: Options,
-    layout: &Layout,
+    layout: &[u32],
     from: Cursor,
     name: &mut [u8],
     out: &mut [u8],
@@ -208,7 +207,7 @@ pub fn fill(
     ensures { λ r. let v = view options (now (tables .entry)) (now (strings .entry)) (now (blob .entry)) in
         ⌜ Filled (pieceOf v (length (now (out .entry))) from) (now (out .entry)) (now (out .exit)) r ⌝ }
 {
-    let mut layout = [0usize; columns::SIZE];
+    let mut layout = [0u32; columns::SIZE];
     match opening::open(tables, options, &mut layout) {
         Opened::Refused(why) => {
             let s = fill_refused(why, from, out);

@@ -6,7 +6,7 @@ use mathlib.Core.Logic.{⊎-elim}
 use Prim.Native.Nat.{ℕ, _+_, _-_, _*_, _≤_, _<_}
 use native.Mathlib.Nat.{eq-or-lt-of-le, eq-zero-or-pos}
 use native.Mathlib.Omega.{arith}
-use lib.ListN.{length, getD, set}
+use lib.ListN.{length, getD, set, length-set}
 use lib.Seq.{getD-set-other}
 use Rattle.rows.specs.Columns as columns
 use Rattle.rows.specs.Layout.{Laid, Ascends, optionsIn, markAt, rowsAt, cell, viewIn}
@@ -82,10 +82,11 @@ module _ {t l : List ℕ} (laid : Laid t l) (c : ℕ) where
   marked-one h a =
       record {
         laid = record {
+          size = simp length-set (laid .size);
           ready = rw same-options (laid .ready);
           narrow = rw same-options (laid .narrow);
           is = λ i k. rw same-options (kept i k ∙ laid .is i k);
-          marked = λ d k m. rw (same-options, kept (4 * d + 3) (omega arith))
+          marked = λ d k m. rw (same-options, kept (columns.numbers * d + columns.rows) (omega arith))
               (⊎-elim (λ e. rw e a)
               (λ n. laid .marked d k (sym (getD-set-other l (columns.marks + c) (columns.marks + d) 1 0 (λ e. n (omega arith))) ∙ m))
               (same-or-not d c));

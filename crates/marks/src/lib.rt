@@ -1,7 +1,6 @@
 // What is known of the order of the columns that are searched. The standard sorts GenericParam by Owner, InterfaceImpl by Class and
 // NestedClass by NestedClass (ECMA-335 II.22.20, II.22.23, II.22.32), and MethodList runs on from class to class (II.22.37). No file has
 // to keep to it: one pass over a column tells, and a mark in the layout says so to every search after it.
-use rows::Layout;
 use rows::columns;
 ghost use mathlib.Core.Path.{_≡_};
 ghost use Prim.Native.Nat.{_<_};
@@ -10,7 +9,7 @@ ghost use Rattle.rows.specs.Layout.{Laid, Ascends, rowsAt, cell};
 ghost use Rattle.marks.specs.Marks.{Tells, Marked};
 
 // Whether no number of a column is less than the one in the row before it.
-fn ascends(tables: &[u8], layout: &Layout, column: usize) -> bool
+fn ascends(tables: &[u8], layout: &[u32], column: usize) -> bool
     requires { ⌜ Laid (now tables) (now layout) ⌝ }
     requires { ⌜ column < columns.count ⌝ }
     ensures { λ r. ⌜ Tells r (Ascends (cell (now (tables .entry)) (now (layout .entry)) column) (rowsAt (now (layout .entry)) column)) ⌝ }
@@ -30,7 +29,7 @@ fn ascends(tables: &[u8], layout: &Layout, column: usize) -> bool
 }
 
 // Mark a column if it ascends.
-fn mark_column(tables: &[u8], layout: &mut Layout, column: usize)
+fn mark_column(tables: &[u8], layout: &mut [u32], column: usize)
     requires { ⌜ Laid (now tables) (now layout) ⌝ }
     requires { ⌜ column < columns.count ⌝ }
     ensures { λ _. ⌜ Marked (now (tables .entry)) (now (layout .entry)) (now (layout .exit)) ⌝ }
@@ -41,7 +40,7 @@ fn mark_column(tables: &[u8], layout: &mut Layout, column: usize)
 }
 
 // Mark those of the columns that rows are searched by that ascend.
-pub fn mark_columns(tables: &[u8], layout: &mut Layout)
+pub fn mark_columns(tables: &[u8], layout: &mut [u32])
     requires { ⌜ Laid (now tables) (now layout) ⌝ }
     ensures { λ _. ⌜ Marked (now (tables .entry)) (now (layout .entry)) (now (layout .exit)) ⌝ }
 {

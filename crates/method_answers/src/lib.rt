@@ -4,7 +4,6 @@ use buffers::Reply;
 use classes::ClassNumber;
 use places::ClassRow;
 use places::MethodRow;
-use rows::Layout;
 use rows::columns;
 ghost use mathlib.Core.List.{List};
 ghost use Prim.Native.Nat.{ℕ};
@@ -13,7 +12,7 @@ ghost use Rattle.record.specs.Answers.{Numbered, methodCount, methodFlags, meth
 ghost use Rattle.rows.specs.Layout.{Laid, viewIn};
 
 // How many methods a class has (II.22.26).
-pub fn count_methods_of(tables: &[u8], layout: &Layout, class: ClassNumber) -> Reply
+pub fn count_methods_of(tables: &[u8], layout: &[u32], class: ClassNumber) -> Reply
     requires { ⌜ Laid (now tables) (now layout) ⌝ }
     ensures { λ r.
         ⌜ ((strings blob : List ℕ) → Numbered (methodCount (viewIn (now (tables .entry)) (now (layout .entry)) strings blob) (class .0)) r) ⌝ }
@@ -28,7 +27,7 @@ pub fn count_methods_of(tables: &[u8], layout: &Layout, class: ClassNumber) -> R
 }
 
 // The flags of method m of a class (II.23.1.10).
-pub fn method_flags_of(tables: &[u8], layout: &Layout, class: ClassNumber, m: u32) -> Reply
+pub fn method_flags_of(tables: &[u8], layout: &[u32], class: ClassNumber, m: u32) -> Reply
     requires { ⌜ Laid (now tables) (now layout) ⌝ }
     ensures { λ r.
         ⌜ ((strings blob : List ℕ) → Numbered (methodFlags (viewIn (now (tables .entry)) (now (layout .entry)) strings blob) (class .0) m) r) ⌝ }
@@ -47,7 +46,7 @@ pub fn write_method_name(
     buf: &mut [u8],
     tables: &[u8],
     strings: &[u8],
-    layout: &Layout,
+    layout: &[u32],
     class: ClassNumber,
     m: u32,
 ) -> Reply
@@ -65,7 +64,7 @@ pub fn write_method_name(
 }
 
 // How many generic parameters method m of a class has (II.22.20).
-pub fn count_method_generics_of(tables: &[u8], layout: &Layout, class: ClassNumber, m: u32) -> Reply
+pub fn count_method_generics_of(tables: &[u8], layout: &[u32], class: ClassNumber, m: u32) -> Reply
     requires { ⌜ Laid (now tables) (now layout) ⌝ }
     ensures { λ r.
         ⌜ ((strings blob : List ℕ) → Numbered
@@ -82,7 +81,7 @@ pub fn write_method_generic_name(
     buf: &mut [u8],
     tables: &[u8],
     strings: &[u8],
-    layout: &Layout,
+    layout: &[u32],
     class: ClassNumber,
     m: u32,
     g: u32,
@@ -108,7 +107,7 @@ pub fn write_return_type_of(
     tables: &[u8],
     strings: &[u8],
     blob: &[u8],
-    layout: &Layout,
+    layout: &[u32],
     class: ClassNumber,
     m: u32,
 ) -> Reply
@@ -134,7 +133,7 @@ pub fn count_params_of(
     tables: &[u8],
     strings: &[u8],
     blob: &[u8],
-    layout: &Layout,
+    layout: &[u32],
     class: ClassNumber,
     m: u32,
 ) -> Reply
@@ -160,7 +159,7 @@ pub fn write_param_type_of(
     tables: &[u8],
     strings: &[u8],
     blob: &[u8],
-    layout: &Layout,
+    layout: &[u32],
     class: ClassNumber,
     m: u32,
     p: u32,
@@ -189,7 +188,7 @@ pub fn write_param_name_of(
     tables: &[u8],
     strings: &[u8],
     blob: &[u8],
-    layout: &Layout,
+    layout: &[u32],
     class: ClassNumber,
     m: u32,
     p: u32,

@@ -10,7 +10,6 @@ use method_answers::write_method_name;
 use method_answers::write_param_name_of;
 use method_answers::write_param_type_of;
 use method_answers::write_return_type_of;
-use rows::Layout;
 ghost use mathlib.Core.Path.{_≡_};
 ghost use Prim.Native.Nat.{ℕ};
 ghost use lib.ListN.{length};
@@ -24,7 +23,7 @@ pub fn method_line(
     tables: &[u8],
     strings: &[u8],
     blob: &[u8],
-    layout: &Layout,
+    layout: &[u32],
     class: ClassNumber,
     m: u32,
     name: &mut [u8],
@@ -47,7 +46,7 @@ pub fn method_flags_line(
     tables: &[u8],
     strings: &[u8],
     blob: &[u8],
-    layout: &Layout,
+    layout: &[u32],
     class: ClassNumber,
     m: u32,
     out: &mut [u8],
@@ -72,7 +71,7 @@ pub fn method_generic_line(
     tables: &[u8],
     strings: &[u8],
     blob: &[u8],
-    layout: &Layout,
+    layout: &[u32],
     class: ClassNumber,
     m: u32,
     i: u32,
@@ -96,7 +95,7 @@ pub fn returns_line(
     tables: &[u8],
     strings: &[u8],
     blob: &[u8],
-    layout: &Layout,
+    layout: &[u32],
     class: ClassNumber,
     m: u32,
     name: &mut [u8],
@@ -121,7 +120,7 @@ pub fn param_type_line(
     tables: &[u8],
     strings: &[u8],
     blob: &[u8],
-    layout: &Layout,
+    layout: &[u32],
     class: ClassNumber,
     m: u32,
     i: u32,
@@ -145,7 +144,7 @@ pub fn param_name_line(
     tables: &[u8],
     strings: &[u8],
     blob: &[u8],
-    layout: &Layout,
+    layout: &[u32],
     class: ClassNumber,
     m: u32,
     i: u32,

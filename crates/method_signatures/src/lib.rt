@@ -9,7 +9,6 @@ use heaps::Part;
 use numbers::Uint;
 use numbers::wide;
 use rendering::Rendering;
-use rows::Layout;
 use rows::columns;
 use sig_leaves::LEVELS;
 use sig_leaves::Owner;
@@ -82,7 +81,7 @@ fn read_by(
     tables: &[u8],
     strings: &[u8],
     blob: &[u8],
-    layout: &Layout,
+    layout: &[u32],
     m: usize,
     class: ClassNumber,
 ) -> Reading
@@ -138,7 +137,7 @@ fn has_method(first: usize, end: usize, m: usize) -> bool
 
 // A class before which none reads method m. Where MethodList is known to ascend, that is the last whose first method lies at or below m:
 // the last row whose column is at most m + 1.
-fn first_reader(tables: &[u8], layout: &Layout, m: usize) -> ClassNumber
+fn first_reader(tables: &[u8], layout: &[u32], m: usize) -> ClassNumber
     requires { ⌜ Laid (now tables) (now layout) ⌝ }
     requires { ⌜ m < rowsAt (now layout) columns.methodSignature ⌝ }
     ensures { λ r. ⌜ ((strings blob : List ℕ) → ReadFrom (viewIn (now (tables .entry)) (now (layout .entry)) strings blob) m (r .0)) ⌝ }
@@ -154,7 +153,7 @@ fn first_reader(tables: &[u8], layout: &Layout, m: usize) -> ClassNumber
 
 // The first class from one on that reads method m. A class reads from its first method up to that of the next class whose MethodList
 // column is not 0, so it is known to read m once that one is met.
-fn next_reader(tables: &[u8], layout: &Layout, m: usize, from: ClassNumber) -> ClassReader
+fn next_reader(tables: &[u8], layout: &[u32], m: usize, from: ClassNumber) -> ClassReader
     requires { ⌜ Laid (now tables) (now layout) ⌝ }
     requires { ⌜ m < rowsAt (now layout) columns.methodSignature ⌝ }
     ensures { λ r. ⌜ ((strings blob : List ℕ) → ReaderIs (viewIn (now (tables .entry)) (now (layout .entry)) strings blob) m (from .0) r) ⌝ }
@@ -188,7 +187,7 @@ fn read_signature(
     tables: &[u8],
     strings: &[u8],
     blob: &[u8],
-    layout: &Layout,
+    layout: &[u32],
     m: usize,
 ) -> Reading
     requires { ⌜ Laid (now tables) (now layout) ⌝ }
@@ -233,7 +232,7 @@ fn read_signature(
 }
 
 // How many parameters method m has. The text of its return type goes to a buffer of one byte, since only its length is counted.
-pub fn count_params(tables: &[u8], strings: &[u8], blob: &[u8], layout: &Layout, m: usize) -> usize
+pub fn count_params(tables: &[u8], strings: &[u8], blob: &[u8], layout: &[u32], m: usize) -> usize
     requires { ⌜ Laid (now tables) (now layout) ⌝ }
     requires { ⌜ m < rowsAt (now layout) columns.methodSignature ⌝ }
     ensures { λ r. let v = viewIn (now (tables .entry)) (now (layout .entry)) (now (strings .entry)) (now (blob .entry)) in
@@ -252,7 +251,7 @@ fn skip_types(
     tables: &[u8],
     strings: &[u8],
     blob: &[u8],
-    layout: &Layout,
+    layout: &[u32],
     class: Owner,
     method: Owner,
     sig: &[u8],
@@ -330,7 +329,7 @@ pub fn tell_return_type(
     tables: &[u8],
     strings: &[u8],
     blob: &[u8],
-    layout: &Layout,
+    layout: &[u32],
     m: usize,
 ) -> Typed
     requires { ⌜ Laid (now tables) (now layout) ⌝ }
@@ -377,7 +376,7 @@ fn find_signature(
     tables: &[u8],
     strings: &[u8],
     blob: &[u8],
-    layout: &Layout,
+    layout: &[u32],
     m: usize,
     p: u32,
 ) -> Signature
@@ -440,7 +439,7 @@ fn signature_at(
     tables: &[u8],
     strings: &[u8],
     blob: &[u8],
-    layout: &Layout,
+    layout: &[u32],
     m: usize,
     p: u32,
     known: Signature,
@@ -464,7 +463,7 @@ fn signature_of(
     tables: &[u8],
     strings: &[u8],
     blob: &[u8],
-    layout: &Layout,
+    layout: &[u32],
     m: usize,
     known: Signature,
 ) -> Signature
@@ -503,7 +502,7 @@ fn tell_next_type(
     tables: &[u8],
     strings: &[u8],
     blob: &[u8],
-    layout: &Layout,
+    layout: &[u32],
     m: usize,
     p: u32,
     known: Signature,
@@ -553,7 +552,7 @@ pub fn tell_param_type(
     tables: &[u8],
     strings: &[u8],
     blob: &[u8],
-    layout: &Layout,
+    layout: &[u32],
     m: usize,
     p: u32,
     known: Signature,
@@ -575,7 +574,7 @@ fn push_param_name(
     at: usize,
     tables: &[u8],
     strings: &[u8],
-    layout: &Layout,
+    layout: &[u32],
     m: usize,
     p: u32,
 ) -> Place
@@ -616,7 +615,7 @@ pub fn tell_param_name(
     tables: &[u8],
     strings: &[u8],
     blob: &[u8],
-    layout: &Layout,
+    layout: &[u32],
     m: usize,
     p: u32,
     known: Signature,

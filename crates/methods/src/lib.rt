@@ -30,7 +30,7 @@ fn take_from(column: u32, left: usize) -> usize
 }
 
 // How many methods the classes after a TypeDef row have left, taken class by class.
-fn scan_left(tables: &[u8], layout: &rows::Layout, row: usize) -> usize
+fn scan_left(tables: &[u8], layout: &[u32], row: usize) -> usize
     requires { ⌜ Laid (now tables) (now layout) ⌝ }
     requires { ⌜ (0 < row) × (row ≤ rowsAt (now layout) columns.methodList) ⌝ }
     ensures { λ r. ⌜ ((strings blob : List ℕ) → r ≡ leftAfter (viewIn (now (tables .entry)) (now (layout .entry)) strings blob) (row - 1)) ⌝ }
@@ -48,7 +48,7 @@ fn scan_left(tables: &[u8], layout: &rows::Layout, row: usize) -> usize
 }
 
 // The same. Where MethodList is known to ascend, the next class alone decides, unless its column is 0: no class after it begins before it.
-fn left_after(tables: &[u8], layout: &rows::Layout, row: usize) -> usize
+fn left_after(tables: &[u8], layout: &[u32], row: usize) -> usize
     requires { ⌜ Laid (now tables) (now layout) ⌝ }
     requires { ⌜ (0 < row) × (row ≤ rowsAt (now layout) columns.methodList) ⌝ }
     ensures { λ r. ⌜ ((strings blob : List ℕ) → r ≡ leftAfter (viewIn (now (tables .entry)) (now (layout .entry)) strings blob) (row - 1)) ⌝ }
@@ -65,7 +65,7 @@ fn left_after(tables: &[u8], layout: &rows::Layout, row: usize) -> usize
 }
 
 // The methods of the class at a TypeDef row.
-pub fn method_range(tables: &[u8], layout: &rows::Layout, row: TypeDefRow) -> Range
+pub fn method_range(tables: &[u8], layout: &[u32], row: TypeDefRow) -> Range
     requires { ⌜ Laid (now tables) (now layout) ⌝ }
     requires { ⌜ (1 < row .0) × (row .0 ≤ rowsAt (now layout) columns.methodList) ⌝ }
     ensures { λ r.

@@ -5,7 +5,6 @@ use backwards::Spot;
 use buffers::Place;
 use classes::TypeDefRow;
 use heaps::Part;
-use rows::Layout;
 ghost use mathlib.Core.Path.{_≡_};
 ghost use mathlib.Core.List.{List, _∷_, [], _++_};
 ghost use Prim.Native.Nat.{ℕ, _+_, _<_, _≤_, min};
@@ -43,7 +42,7 @@ pub enum Outer {
 fn class_string(
     tables: &[u8],
     strings: &[u8],
-    layout: &Layout,
+    layout: &[u32],
     column: usize,
     row: TypeDefRow,
 ) -> Name
@@ -75,7 +74,7 @@ fn name_length(strings: &[u8], start: usize, len: usize) -> usize
 }
 
 // The name of a class.
-fn class_own_name(tables: &[u8], strings: &[u8], layout: &Layout, row: TypeDefRow) -> Name
+fn class_own_name(tables: &[u8], strings: &[u8], layout: &[u32], row: TypeDefRow) -> Name
     requires { ⌜ Laid (now tables) (now layout) ⌝ }
     ensures { λ r. ⌜ Shows (now (strings .entry)) (nameIn (now (tables .entry)) (now (layout .entry)) (now (strings .entry)) (row .0)) r ⌝ }
 {
@@ -89,7 +88,7 @@ fn class_own_name(tables: &[u8], strings: &[u8], layout: &Layout, row: TypeDefRo
 }
 
 // The class that NestedClass row i puts around another. Rows with either index 0 or 1 do nothing.
-fn class_around(tables: &[u8], layout: &Layout, i: usize, row: TypeDefRow) -> Around
+fn class_around(tables: &[u8], layout: &[u32], i: usize, row: TypeDefRow) -> Around
     requires { ⌜ Laid (now tables) (now layout) ⌝ }
     requires { ⌜ i < rowsAt (now layout) columns.nested ⌝ }
     ensures { λ r. ⌜ aroundSays r ≡ aroundIn (now (tables .entry)) (now (layout .entry)) i (row .0) ⌝ }
@@ -115,7 +114,7 @@ fn least(a: usize, b: usize) -> usize
 }
 
 // Of the rows before an end the last that puts a class around another. Only rows whose nested class it is can.
-pub fn last_around(tables: &[u8], layout: &Layout, end: usize, row: TypeDefRow) -> Outer
+pub fn last_around(tables: &[u8], layout: &[u32], end: usize, row: TypeDefRow) -> Outer
     requires { ⌜ Laid (now tables) (now layout) ⌝ }
     requires { ⌜ end ≤ rowsAt (now layout) columns.nested ⌝ }
     ensures { λ r. ⌜ LastAround (now (tables .entry)) (now (layout .entry)) end (row .0) r ⌝ }
@@ -158,7 +157,7 @@ fn put_front(
     end: usize,
     tables: &[u8],
     strings: &[u8],
-    layout: &Layout,
+    layout: &[u32],
     row: TypeDefRow,
 ) -> Spot
     requires { ⌜ Laid (now tables) (now layout) ⌝ }
@@ -212,7 +211,7 @@ fn push_behind_front(
     at: usize,
     tables: &[u8],
     strings: &[u8],
-    layout: &Layout,
+    layout: &[u32],
     row: TypeDefRow,
     start: usize,
     len: usize,
@@ -247,7 +246,7 @@ pub fn push_class_name(
     at: usize,
     tables: &[u8],
     strings: &[u8],
-    layout: &Layout,
+    layout: &[u32],
     row: TypeDefRow,
 ) -> Place
     requires { ⌜ Laid (now tables) (now layout) ⌝ }
@@ -284,7 +283,7 @@ fn push_ref_namespace(
     at: usize,
     tables: &[u8],
     strings: &[u8],
-    layout: &Layout,
+    layout: &[u32],
     i: usize,
 ) -> usize
     requires { ⌜ Laid (now tables) (now layout) ⌝ }
@@ -310,7 +309,7 @@ pub fn push_ref_name(
     at: usize,
     tables: &[u8],
     strings: &[u8],
-    layout: &Layout,
+    layout: &[u32],
     row: u32,
 ) -> Place
     requires { ⌜ Laid (now tables) (now layout) ⌝ }

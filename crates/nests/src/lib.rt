@@ -4,7 +4,6 @@
 // room is searched for row by row. What the memory held before means nothing.
 use classes::TypeDefRow;
 use names::Outer;
-use rows::Layout;
 ghost use mathlib.Core.Path.{_≡_};
 ghost use Prim.Native.Nat.{ℕ, _+_, _<_, _≤_};
 ghost use lib.ListN.{length, getD};
@@ -47,7 +46,7 @@ fn nest_row(memory: &mut [u32], room: usize, i: usize, nested: usize, enclosing:
 }
 
 // Link the rows of NestedClass. The last words are the rows' own; those before them are the classes', by their TypeDef rows.
-pub fn nest_rows(memory: &mut [u32], tables: &[u8], layout: &Layout)
+pub fn nest_rows(memory: &mut [u32], tables: &[u8], layout: &[u32])
     requires { ⌜ Laid (now tables) (now layout) ⌝ }
     ensures { λ _.
         ⌜ Nested (cell (now (tables .entry)) (now (layout .entry)) columns.nested)
@@ -75,7 +74,7 @@ pub fn nest_rows(memory: &mut [u32], tables: &[u8], layout: &Layout)
 }
 
 // What a link names.
-fn linked(tables: &[u8], layout: &Layout, link: u32) -> Outer
+fn linked(tables: &[u8], layout: &[u32], link: u32) -> Outer
     requires { ⌜ Laid (now tables) (now layout) ⌝ }
     requires { ⌜ link ≤ rowsAt (now layout) columns.nested ⌝ }
     ensures { λ r.
@@ -92,7 +91,7 @@ fn linked(tables: &[u8], layout: &Layout, link: u32) -> Outer
 }
 
 // Of all NestedClass rows the last that puts a class around another.
-pub fn outer_of(memory: &[u32], tables: &[u8], layout: &Layout, row: TypeDefRow) -> Outer
+pub fn outer_of(memory: &[u32], tables: &[u8], layout: &[u32], row: TypeDefRow) -> Outer
     requires { ⌜ Laid (now tables) (now layout) ⌝ }
     requires { ⌜ Nested (cell (now tables) (now layout) columns.nested) (cell (now tables) (now layout) columns.enclosing)
         (rowsAt (now layout) columns.nested) (now memory) ⌝ }
@@ -110,7 +109,7 @@ pub fn outer_of(memory: &[u32], tables: &[u8], layout: &Layout, row: TypeDefRow)
 }
 
 // The same of the rows before row i, for the class that row i puts around another.
-pub fn outer_at(memory: &[u32], tables: &[u8], layout: &Layout, i: usize, row: TypeDefRow) -> Outer
+pub fn outer_at(memory: &[u32], tables: &[u8], layout: &[u32], i: usize, row: TypeDefRow) -> Outer
     requires { ⌜ Laid (now tables) (now layout) ⌝ }
     requires { ⌜ Nested (cell (now tables) (now layout) columns.nested) (cell (now tables) (now layout) columns.enclosing)
         (rowsAt (now layout) columns.nested) (now memory) ⌝ }

@@ -33,9 +33,10 @@ module _ (o : Options) (t : List ℕ) {l : List ℕ} (u : Unmarked (layoutOf o (
       let same = opened-options o (opened o t) (length t) in
       rw (u .same columns.limit (omega arith), u .same columns.security (omega arith)) same
 
-  fresh : opened o t .answer ≡ Ready → o .limit < 4_294_967_296 → Laid t l
+  fresh : opened o t .answer ≡ Ready → o .limit < columns.word → Laid t l
   fresh r n =
       record {
+        size = u .size;
         ready = rw said r;
         narrow = rw said n;
         is = rw said (u .same);
@@ -54,7 +55,7 @@ module _ {o : Options} {t : List ℕ} {h : Header} (e : h ≡ opened o t) where
       }
 
   pub is-ready : {l : List ℕ} → h .answer ≡ Ready
-      → Unmarked (layoutOf o (record { answer = Ready; heap = h .heap; first = h .first; counts = h .counts }) (length t)) l → o .limit < 4_294_967_296
+      → Unmarked (layoutOf o (record { answer = Ready; heap = h .heap; first = h .first; counts = h .counts }) (length t)) l → o .limit < columns.word
       → OpenedAs o t Ready l
   is-ready {l} f g n =
       let same : record { answer = Ready; heap = h .heap; first = h .first; counts = h .counts } ≡ opened o t = rw (← f) e in

@@ -1,9 +1,9 @@
--- The loop of `lay`: the layout is filled from its front, four numbers in each turn. Assumes nothing.
+-- The loop of `lay`: the layout is filled from its front, the numbers of a column in each turn. Assumes nothing.
 use mathlib.Core.Path.{_≡_, refl, sym, ap, _∙_}
 use mathlib.Core.Bool.{Bool, true, false, cond, _&&_, not}
 use mathlib.Core.Logic.{_≢_}
 use mathlib.Core.List.{List, [], _∷_, map}
-use Prim.Native.Nat.{ℕ, _+_, _*_, _≤_, _<_}
+use Prim.Native.Nat.{ℕ, _+_, _*_, _/_, _%_, _≤_, _<_}
 use native.Mathlib.Nat.{not-suc-le-zero}
 use native.Mathlib.Omega.{arith}
 use borrow.Author.Count.{below-more}
@@ -17,7 +17,7 @@ use Rattle.layouts.specs.declared.IndexSizes.{IndexSizes}
 use Rattle.layouts.specs.Read.{Of, readColumns, readColumn, offsetIn, bytesIn}
 use Rattle.layouts.proofs.Reaches.{below}
 use Rattle.layouts.proofs.Lists.{made-at}
-use Rattle.tables.specs.Extents.{Walked, walkSays, walkReply, extentBy, onlyEntire, keptBy, sizesIn}
+use Rattle.tables.specs.Extents.{Walked, walkSays, walkReply, extent, extentBy, onlyEntire, keptBy, sizesIn}
 use Rattle.tables.specs.declared.Extents.{Extents}
 use Rattle.rows.specs.Columns as columns
 use Rattle.rows.specs.Layout.{columnNumbers, layoutOf}
@@ -57,21 +57,28 @@ put {all} {l} {m} f h v e =
       unset = λ j a b. getD-set-other l m j v 0 (λ r. omega arith) ∙ f .unset j (omega arith) b;
     }
 
-pub turn : {all l : List ℕ} {c : ℕ} → Filled all l (4 * c) → c < columns.count → {v0 v1 v2 v3 : ℕ}
-    → v0 ≡ getD all (4 * c) 0
-    → v1 ≡ getD all (4 * c + 1) 0
-    → v2 ≡ getD all (4 * c + 2) 0
-    → v3 ≡ getD all (4 * c + 3) 0
-    → Filled all (set (set (set (set l (4 * c) v0) (4 * c + 1) v1) (4 * c + 2) v2) (4 * c + 3) v3) (4 * (c + 1))
-turn {all} {l} {c} f h {v0} {v1} {v2} {v3} e0 e1 e2 e3 =
+pub turn : {all l : List ℕ} {c : ℕ} → Filled all l (columns.numbers * c) → c < columns.count → {v0 v1 v2 v3 v4 : ℕ}
+    → v0 ≡ getD all (columns.numbers * c) 0
+    → v1 ≡ getD all (columns.numbers * c + columns.startHigh) 0
+    → v2 ≡ getD all (columns.numbers * c + columns.step) 0
+    → v3 ≡ getD all (columns.numbers * c + columns.width) 0
+    → v4 ≡ getD all (columns.numbers * c + columns.rows) 0
+    → Filled all
+    (set (set (set (set (set l (columns.numbers * c) v0) (columns.numbers * c + columns.startHigh) v1)
+    (columns.numbers * c + columns.step) v2) (columns.numbers * c + columns.width) v3) (columns.numbers * c + columns.rows) v4)
+    (columns.numbers * (c + 1))
+turn {all} {l} {c} f h {v0} {v1} {v2} {v3} {v4} e0 e1 e2 e3 e4 =
+    let at : ℕ = columns.numbers * c in
     let a = put f (omega arith) v0 e0 in
     let b = put a (omega arith) v1 e1 in
-    let p : 4 * c + 1 + 1 ≡ 4 * c + 2 = omega arith in
+    let p : at + columns.startHigh + 1 ≡ at + columns.step = omega arith in
     let d = put (rw p at b) (omega arith) v2 e2 in
-    let q : 4 * c + 2 + 1 ≡ 4 * c + 3 = omega arith in
+    let q : at + columns.step + 1 ≡ at + columns.width = omega arith in
     let g = put (rw q at d) (omega arith) v3 e3 in
-    let r : 4 * c + 3 + 1 ≡ 4 * (c + 1) = omega arith in
-    rw r at g
+    let r : at + columns.width + 1 ≡ at + columns.rows = omega arith in
+    let k = put (rw r at g) (omega arith) v4 e4 in
+    let z : at + columns.rows + 1 ≡ columns.numbers * (c + 1) = omega arith in
+    rw z at k
 
 -- What an array of the code has for a column.
 pub read-at : (g : Of → ℕ) (l : List ℕ) → l ≡ map g readColumns → (c : ℕ) → c < columns.count → getD l c 0 ≡ g (readColumn c)
@@ -82,37 +89,46 @@ pub kind-below : (kinds : List ℕ) → kinds ≡ map (λ x. x .kind) readColumn
 kind-below kinds e c = rw e (below (map (λ x. x .kind) readColumns) refl c)
 
 module _ (o : Options) (h : Header) (n : ℕ) where
-  layout-at : (c d : ℕ) → c < columns.count → d < 4 → getD (layoutOf o h n) (4 * c + d) 0 ≡ getD (columnNumbers o h n (readColumn c)) d 0
+  layout-at : (c d : ℕ) → c < columns.count → d < columns.numbers → getD (layoutOf o h n) (columns.numbers * c + d) 0 ≡ getD (columnNumbers o h n (readColumn c)) d 0
   unfolding layoutOf
   layout-at c d l k = numbers-at o h n readColumns (o .limit ∷ cond (o .security) 1 0 ∷ []) (readColumn columns.count) c d l k
 
   -- All turns are done, and the options are stored.
-  pub whole : {l : List ℕ} {c v w : ℕ} → Filled (layoutOf o h n) l (4 * c) → c ≤ columns.count → columns.count ≤ c → v ≡ o .limit → w ≡ cond (o .security) 1 0
+  pub whole : {l : List ℕ} {c v w : ℕ} → Filled (layoutOf o h n) l (columns.numbers * c) → c ≤ columns.count → columns.count ≤ c → v ≡ o .limit → w ≡ cond (o .security) 1 0
       → Unmarked (layoutOf o h n) (set (set l columns.limit v) columns.security w)
   unfolding layoutOf
   whole {l} {c} {v} {w} f p q e g =
-      let z : 4 * c ≡ columns.limit = omega arith in
+      let z : columns.numbers * c ≡ columns.limit = omega arith in
       let a = put (put (rw z at f) (omega arith) v e) (omega arith) w g in
-      record { same = a .same; none = λ k d. a .unset (columns.marks + k) (omega arith) (omega arith) }
+      record { size = omega (arith, a .long); same = a .same; none = λ k d. a .unset (columns.marks + k) (omega arith) (omega arith) }
 
-  -- The four numbers of a column, as the code has them.
+  -- The numbers of a column, as the code has them.
   module _ (r : Extents) (e : walkSays r ≡ walkReply o h n) (c k : ℕ) (l : c < columns.count) (ek : k ≡ readColumn c .kind) where
+    -- Where it stands, and from that the two words.
     pub first-is : (w : IndexSizes) (f g : ℕ) → w ≡ sizesIn o h → f ≡ offsetIn w (readColumn c) → g ≡ f
-        → getD (r .starts) k 0 + g ≡ getD (layoutOf o h n) (4 * c) 0
+        → getD (r .starts) k 0 + g ≡ extent o h n (readColumn c .kind) .start + offsetIn (sizesIn o h) (readColumn c)
     unfolding extentBy
-    first-is w f g ew ef eg =
-        let z : 4 * c + 0 ≡ 4 * c = omega arith in
-        rw (ap (λ (w : Walked). w .starts) e, ek, eg, ef, ew) (sym (rw z at (layout-at c 0 l (omega arith))))
+    first-is w f g ew ef eg = rw (ap (λ (w : Walked). w .starts) e, ek, eg, ef, ew)
 
-    pub step-is : (s : ℕ) → s ≡ getD (r .sizes) k 0 → s ≡ getD (layoutOf o h n) (4 * c + 1) 0
+    pub step-is : (s : ℕ) → s ≡ getD (r .sizes) k 0 → s ≡ getD (layoutOf o h n) (columns.numbers * c + columns.step) 0
     unfolding extentBy
-    step-is s es = es ∙ rw (ap (λ (w : Walked). w .sizes) e, ek) (sym (layout-at c 1 l (omega arith)))
+    step-is s es = es ∙ rw (ap (λ (w : Walked). w .sizes) e, ek) (sym (layout-at c columns.step l (omega arith)))
 
     pub kept-is : (v : ℕ) → v ≡ cond (onlyEntire k && not (eqb (getD (r .rows) k 0) (getD (h .counts) k 0))) 0 (getD (r .rows) k 0)
-        → v ≡ getD (layoutOf o h n) (4 * c + 3) 0
+        → v ≡ getD (layoutOf o h n) (columns.numbers * c + columns.rows) 0
     unfolding extentBy keptBy
-    kept-is v ev = ev ∙ rw (ap (λ (w : Walked). w .rows) e, ek) (sym (layout-at c 3 l (omega arith)))
+    kept-is v ev = ev ∙ rw (ap (λ (w : Walked). w .rows) e, ek) (sym (layout-at c columns.rows l (omega arith)))
 
   pub width-is : (c : ℕ) → c < columns.count → (w : IndexSizes) (f g : ℕ) → w ≡ sizesIn o h → f ≡ bytesIn w (readColumn c) → g ≡ f
-      → g ≡ getD (layoutOf o h n) (4 * c + 2) 0
-  width-is c l w f g ew ef eg = eg ∙ ef ∙ ap (λ (v : IndexSizes). bytesIn v (readColumn c)) ew ∙ sym (layout-at c 2 l (omega arith))
+      → g ≡ getD (layoutOf o h n) (columns.numbers * c + columns.width) 0
+  width-is c l w f g ew ef eg = eg ∙ ef ∙ ap (λ (v : IndexSizes). bytesIn v (readColumn c)) ew ∙ sym (layout-at c columns.width l (omega arith))
+
+  -- The two words of where a column stands.
+  module _ (c : ℕ) (l : c < columns.count) {first : ℕ} (e : first ≡ extent o h n (readColumn c .kind) .start + offsetIn (sizesIn o h) (readColumn c)) where
+    pub low-is : first % columns.word ≡ getD (layoutOf o h n) (columns.numbers * c) 0
+    low-is =
+        let z : columns.numbers * c + 0 ≡ columns.numbers * c = omega arith in
+        rw e (sym (rw z at (layout-at c 0 l (omega arith))))
+
+    pub high-is : first / columns.word ≡ getD (layoutOf o h n) (columns.numbers * c + columns.startHigh) 0
+    high-is = rw e (sym (layout-at c columns.startHigh l (omega arith)))

@@ -1,8 +1,8 @@
 -- What opening a tables stream answers: whether it is refused, and if not, its layout (crates/rows/specs/Layout.antt).
 use mathlib.Core.Path.{_≡_}
 use mathlib.Core.List.{List}
-use Prim.Native.Nat.{ℕ, _<_}
-use lib.ListN.{getD, replicate}
+use Prim.Native.Nat.{ℕ, _<_, _≤_}
+use lib.ListN.{length, getD, replicate}
 use Rattle.buffers.specs.declared.Refusal.{Refusal}
 use Rattle.header.specs.Stream.{opened}
 use Rattle.header.specs.declared.Options.{Options}
@@ -20,5 +20,6 @@ pub record OpenedAs (o : Options) (t : List ℕ) (a : Opened) (l : List ℕ) : T
 
 -- l begins with these numbers, those of a layout, and has no mark.
 pub record Unmarked (numbers l : List ℕ) : Type 0 where
+  pub size : columns.size ≤ length l
   pub same : (i : ℕ) → i < columns.marks → getD l i 0 ≡ getD numbers i 0
   pub none : (c : ℕ) → c < columns.count → markAt l c ≡ 0

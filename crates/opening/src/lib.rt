@@ -2,7 +2,6 @@
 use header::Opened;
 use header::Options;
 use numbers::wide;
-use rows::Layout;
 use rows::columns;
 ghost use mathlib.Core.Path.{_≡_};
 ghost use mathlib.Core.Bool.{cond, _&&_, not};
@@ -25,7 +24,7 @@ const MEMBER_REF: usize = 0x0A;
 // II.22.39
 const TYPE_SPEC: usize = 0x1B;
 
-fn flag(b: bool) -> usize
+fn flag(b: bool) -> u32
     ensures { λ r. ⌜ r ≡ cond b 1 0 ⌝ }
 {
     if b {
@@ -53,27 +52,20 @@ fn only_entire(kind: usize) -> bool
 }
 
 // The rows of a table that are kept, where so many are whole and the table has a count.
-fn kept_rows(kind: usize, rows: u32, count: u32) -> usize
+fn kept_rows(kind: usize, rows: u32, count: u32) -> u32
     ensures { λ r. ⌜ r ≡ cond (onlyEntire kind && not (eqb rows count)) 0 rows ⌝ }
 {
     if rows == count {
-        return wide(rows);
+        return rows;
     }
     if only_entire(kind) {
         return 0;
     }
-    wide(rows)
+    rows
 }
 
 // Lays out a stream of that length, opened with these options, with what its header says.
-fn lay(
-    layout: &mut Layout,
-    len: usize,
-    first: usize,
-    heap: u8,
-    counts: &[u32; 64],
-    options: Options,
-)
+fn lay(layout: &mut [u32], len: usize, first: usize, heap: u8, counts: &[u32; 64], options: Options)
     requires { ⌜ (first ≤ len) × (len < 9223372036854775808) ⌝ }
     requires { ⌜ now layout ≡ replicate columns.size 0 ⌝ }
     ensures { λ _.
@@ -88,17 +80,20 @@ fn lay(
     let widths = layouts::columns::column_widths(sizes);
     for c in 0..columns::COUNT {
         let kind = kinds[c];
-        layout[4 * c] = walk.starts[kind] + wide(offsets[c]);
-        layout[4 * c + 1] = wide(walk.sizes[kind]);
-        layout[4 * c + 2] = wide(widths[c]);
-        layout[4 * c + 3] = kept_rows(kind, walk.rows[kind], counts[kind]);
+        let at = columns::NUMBERS * c;
+        let first = walk.starts[kind] + wide(offsets[c]);
+        layout[at] = (first % columns::WORD) as u32;
+        layout[at + columns::START_HIGH] = (first / columns::WORD) as u32;
+        layout[at + columns::STEP] = walk.sizes[kind];
+        layout[at + columns::WIDTH] = widths[c];
+        layout[at + columns::ROWS] = kept_rows(kind, walk.rows[kind], counts[kind]);
     }
-    layout[columns::LIMIT] = wide(options.limit);
+    layout[columns::LIMIT] = options.limit;
     layout[columns::SECURITY] = flag(security);
 }
 
 // What is lent for the layout is zero, and stays so where the stream is refused.
-pub fn open(tables: &[u8], options: Options, layout: &mut Layout) -> Opened
+pub fn open(tables: &[u8], options: Options, layout: &mut [u32]) -> Opened
     requires { ⌜ now layout ≡ replicate columns.size 0 ⌝ }
     ensures { λ r. ⌜ OpenedAs options (now (tables .entry)) r (now (layout .exit)) ⌝ }
 {

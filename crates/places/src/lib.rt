@@ -5,7 +5,6 @@ use classes::ClassNumber;
 use classes::TypeDefRow;
 use keys::Row;
 use numbers::wide;
-use rows::Layout;
 use rows::columns;
 ghost use mathlib.Core.Path.{_≡_};
 ghost use mathlib.Core.List.{List};
@@ -47,14 +46,14 @@ pub struct Placed {
 }
 
 // How many classes there are: TypeDef row 1 is none.
-pub fn count_classes(layout: &Layout) -> usize
+pub fn count_classes(layout: &[u32]) -> usize
     ensures { λ r. ⌜ r ≡ rowsAt (now (layout .entry)) columns.typeName - 1 ⌝ }
 {
     let n = rows::count_rows(layout, columns::TYPE_NAME);
     if n == 0 { 0 } else { n - 1 }
 }
 
-pub fn class_row(layout: &Layout, class: ClassNumber) -> ClassRow
+pub fn class_row(layout: &[u32], class: ClassNumber) -> ClassRow
     requires { ⌜ rowsAt (now layout) columns.typeName < 4294967296 ⌝ }
     ensures { λ r. ⌜ ClassRowIs (now (layout .entry)) (class .0) r ⌝ }
 {
@@ -81,7 +80,7 @@ pub fn no_own() -> Own
 }
 
 // The methods of the class at a TypeDef row: what is known, if it is about the class.
-fn own_methods(tables: &[u8], layout: &Layout, row: TypeDefRow, known: Own) -> Own
+fn own_methods(tables: &[u8], layout: &[u32], row: TypeDefRow, known: Own) -> Own
     requires { ⌜ Laid (now tables) (now layout) ⌝ }
     requires { ⌜ (1 < row .0) × (row .0 ≤ rowsAt (now layout) columns.methodList) ⌝ }
     ensures { λ r. let v = viewIn (now (tables .entry)) (now (layout .entry)) in
@@ -117,7 +116,7 @@ fn own_method(own: Own, m: u32) -> MethodRow
 // The row of method m of a class. Whoever asks for the next method of the class hands on what is known.
 pub fn place_method(
     tables: &[u8],
-    layout: &Layout,
+    layout: &[u32],
     class: ClassNumber,
     m: u32,
     known: Own,
@@ -141,7 +140,7 @@ pub fn place_method(
 }
 
 // How many generic parameters an owner has, by the Owner column as stored.
-pub fn count_generics(tables: &[u8], layout: &Layout, owner: usize) -> usize
+pub fn count_generics(tables: &[u8], layout: &[u32], owner: usize) -> usize
     requires { ⌜ Laid (now tables) (now layout) ⌝ }
     ensures { λ r. ⌜ ((strings blob : List ℕ) → r ≡ length (viewIn (now (tables .entry)) (now (layout .entry)) strings blob .generics owner)) ⌝ }
 {
@@ -154,7 +153,7 @@ pub fn tell_generic(
     at: usize,
     tables: &[u8],
     strings: &[u8],
-    layout: &Layout,
+    layout: &[u32],
     owner: usize,
     g: u32,
 ) -> Told

@@ -1,4 +1,4 @@
--- What a layout says: the four numbers of each column, and that a kept row's columns lie within the stream. Assumes nothing.
+-- What a layout says: the numbers of each column, and that a kept row's columns lie within the stream. Assumes nothing.
 use mathlib.Core.Path.{_≡_, refl, sym, ap, _∙_}
 use mathlib.Core.Bool.{Bool, true, cond, _&&_}
 use mathlib.Core.List.{List, [], _∷_, _++_}
@@ -37,18 +37,19 @@ use Rattle.layouts.specs.Read.{Of, readColumns, readColumn, offsetIn, bytesIn}
 use Rattle.rows.specs.Columns as columns
 use Rattle.rows.specs.Layout.{columnNumbers, allNumbers, layoutOf, optionsIn, headerIn, rowsAt, markAt, cell, Ascends, Laid}
 
--- The numbers of column c stand from 4 * c on.
+-- The numbers of column c stand one after the other.
 module _ (o : Options) (h : Header) (n : ℕ) where
-  pub numbers-at : (cs : List Of) (rest : List ℕ) (d₀ : Of) (c d : ℕ) → c < length cs → d < 4
-      → getD (allNumbers o h n cs ++ rest) (4 * c + d) 0 ≡ getD (columnNumbers o h n (getD cs c d₀)) d 0
+  pub numbers-at : (cs : List Of) (rest : List ℕ) (d₀ : Of) (c d : ℕ) → c < length cs → d < columns.numbers
+      → getD (allNumbers o h n cs ++ rest) (columns.numbers * c + d) 0 ≡ getD (columnNumbers o h n (getD cs c d₀)) d 0
   numbers-at [] rest d₀ c d l m = absurd (not-suc-le-zero l)
   numbers-at (x ∷ cs) rest d₀ zero zero l m = refl
   numbers-at (x ∷ cs) rest d₀ zero (suc zero) l m = refl
   numbers-at (x ∷ cs) rest d₀ zero (suc (suc zero)) l m = refl
   numbers-at (x ∷ cs) rest d₀ zero (suc (suc (suc zero))) l m = refl
-  numbers-at (x ∷ cs) rest d₀ zero (suc (suc (suc (suc d)))) l m = absurd (omega arith)
+  numbers-at (x ∷ cs) rest d₀ zero (suc (suc (suc (suc zero)))) l m = refl
+  numbers-at (x ∷ cs) rest d₀ zero (suc (suc (suc (suc (suc d))))) l m = absurd (omega arith)
   numbers-at (x ∷ cs) rest d₀ (suc c) d l m =
-      let e : 4 * suc c + d ≡ suc (suc (suc (suc (4 * c + d)))) = omega arith in
+      let e : columns.numbers * suc c + d ≡ suc (suc (suc (suc (suc (columns.numbers * c + d))))) = omega arith in
       rw e (numbers-at cs rest d₀ c d (le-of-suc-le-suc l) m)
 
 -- Every column that is read is a column of a known table: one test over all of them.
@@ -68,12 +69,16 @@ pub column-known : (c : ℕ) → c < columns.count → (readColumn c .kind < 45)
 unfolding tables
 column-known c l = known-at readColumns _ tt c l
 
--- What reading column c of row i relies on: the number lies within the stream, and is the column.
-pub record Reads (t l : List ℕ) (c i : ℕ) : Type 0 where
-  pub narrow : getD l (4 * c + 2) 0 ≤ 4
-  pub small : i * getD l (4 * c + 1) 0 ≤ length t
-  pub within : getD l (4 * c) 0 + i * getD l (4 * c + 1) 0 + getD l (4 * c + 2) 0 ≤ length t
-  pub is : leAt (getD l (4 * c + 2) 0) t (getD l (4 * c) 0 + i * getD l (4 * c + 1) 0) ≡ cell t l c i
+-- Where column c stands in the first row of its table.
+abbrev firstAt : List ℕ → ℕ → ℕ
+firstAt l c = getD l (columns.numbers * c) 0 + getD l (columns.numbers * c + columns.startHigh) 0 * columns.word
+
+-- What reading row i of a column relies on, by the column's numbers: the number lies within the stream, and is v.
+pub record Reads (t : List ℕ) (v i first step width : ℕ) : Type 0 where
+  pub narrow : width ≤ 4
+  pub small : i * step ≤ length t
+  pub within : first + i * step + width ≤ length t
+  pub is : leAt width t (first + i * step) ≡ v
 
 module _ {t l : List ℕ} (laid : Laid t l) where
   abbrev o : Options
@@ -82,23 +87,28 @@ module _ {t l : List ℕ} (laid : Laid t l) where
   abbrev h : Header
   h = headerIn t l
 
-  number-at : (c d : ℕ) → c < columns.count → d < 4 → getD l (4 * c + d) 0 ≡ getD (columnNumbers o h (length t) (readColumn c)) d 0
+  number-at : (c d : ℕ) → c < columns.count → d < columns.numbers → getD l (columns.numbers * c + d) 0 ≡ getD (columnNumbers o h (length t) (readColumn c)) d 0
   unfolding layoutOf
-  number-at c d k m = laid .is (4 * c + d) (omega arith) ∙ numbers-at o h (length t) readColumns (o .limit ∷ cond (o .security) 1 0 ∷ []) _ c d k m
+  number-at c d k m = laid .is (columns.numbers * c + d) (omega arith) ∙ numbers-at o h (length t) readColumns (o .limit ∷ cond (o .security) 1 0 ∷ []) _ c d k m
 
-  first-at : (c : ℕ) → c < columns.count → getD l (4 * c) 0 ≡ place o h t (readColumn c .kind) .start + offsetIn (sizesIn o h) (readColumn c)
-  first-at c k = let e : 4 * c ≡ 4 * c + 0 = omega arith in ap (λ (x : ℕ). getD l x 0) e ∙ number-at c 0 k (omega arith)
+  first-at : (c : ℕ) → c < columns.count → firstAt l c ≡ place o h t (readColumn c .kind) .start + offsetIn (sizesIn o h) (readColumn c)
+  first-at c k =
+      let e : columns.numbers * c ≡ columns.numbers * c + 0 = omega arith in
+      let low = ap (λ (x : ℕ). getD l x 0) e ∙ number-at c 0 k (omega arith) in
+      let high = number-at c columns.startHigh k (omega arith) in
+      omega arith
 
   -- The kept rows of the table of column c.
   pub rows-at : (c : ℕ) → c < columns.count → rowsAt l c ≡ keptRows o h (length t) (readColumn c .kind)
-  rows-at c k = number-at c 3 k (omega arith)
+  rows-at c k = number-at c columns.rows k (omega arith)
 
-  pub reads : (c i : ℕ) → c < columns.count → i < rowsAt l c → Reads t l c i
+  reads-at : (c i : ℕ) → c < columns.count → i < rowsAt l c
+      → Reads t (cell t l c i) i (firstAt l c) (getD l (columns.numbers * c + columns.step) 0) (getD l (columns.numbers * c + columns.width) 0)
   unfolding rowSize
-  reads c i k lt =
+  reads-at c i k lt =
       let a = first-at c k in
-      let b = number-at c 1 k (omega arith) in
-      let d = number-at c 2 k (omega arith) in
+      let b = number-at c columns.step k (omega arith) in
+      let d = number-at c columns.width k (omega arith) in
       let r = rows-at c k in
       let known = column-known c k in
       let kept = kept-le o h (length t) (readColumn c .kind) in
@@ -107,8 +117,8 @@ module _ {t l : List ℕ} (laid : Laid t l) where
       let all : suc i * e .size ≤ e .rows * e .size = mul-le-mul-right (e .size) (omega arith) in
       let one = suc-mul i (e .size) in
       let inside = column-inside (widthIn (sizesIn o h)) (columnsOf (readColumn c .kind)) (readColumn c .place) (known .1) in
-      let step : i * getD l (4 * c + 1) 0 ≡ i * e .size = ap (λ (x : ℕ). i * x) b in
-      let at : e .start + i * e .size + offsetIn (sizesIn o h) (readColumn c) ≡ getD l (4 * c) 0 + i * getD l (4 * c + 1) 0 = omega arith in
+      let step : i * getD l (columns.numbers * c + columns.step) 0 ≡ i * e .size = ap (λ (x : ℕ). i * x) b in
+      let at : e .start + i * e .size + offsetIn (sizesIn o h) (readColumn c) ≡ firstAt l c + i * getD l (columns.numbers * c + columns.step) 0 = omega arith in
       record {
         narrow = ⊎-elim (λ w. omega arith) (λ w. omega arith)
             (two-or-four (counted o h) (h .heap) (h .counts) (getD (columnsOf (readColumn c .kind)) (readColumn c .place) Two));
@@ -118,6 +128,15 @@ module _ {t l : List ℕ} (laid : Laid t l) where
             rw d (ap (leAt (bytesIn (sizesIn o h) (readColumn c)) t) (sym at)
             ∙ sym (column-at (readColumn c .kind) (readColumn c .place) (sizesIn o h) e t i (s .sized) (known .1)));
       }
+
+  -- As the code has the numbers.
+  pub reads : (c i : ℕ) → c < columns.count → i < rowsAt l c → {low high step width : ℕ}
+      → low ≡ getD l (columns.numbers * c) 0
+      → high ≡ getD l (columns.numbers * c + columns.startHigh) 0
+      → step ≡ getD l (columns.numbers * c + columns.step) 0
+      → width ≡ getD l (columns.numbers * c + columns.width) 0
+      → Reads t (cell t l c i) i (low + high * columns.word) step width
+  reads c i k lt e0 e1 e2 e3 = rw (e0, e1, e2, e3) (reads-at c i k lt)
 
 -- A string that was looked up, and what it came to at a place.
 module _ {b : List ℕ} {at : ℕ} {p : Part} where
@@ -135,7 +154,7 @@ pub same-rows : {t l : List ℕ} → Laid t l → (c d : ℕ) → c < columns.co
 same-rows {t} {l} laid c d k m e = rows-at laid c k ∙ ap (keptRows (optionsIn l) (headerIn t l) (length t)) e ∙ sym (rows-at laid d m)
 
 -- No table has more rows than 32 bits can say.
-pub rows-narrow : {t l : List ℕ} → Laid t l → (c : ℕ) → c < columns.count → rowsAt l c < 4_294_967_296
+pub rows-narrow : {t l : List ℕ} → Laid t l → (c : ℕ) → c < columns.count → rowsAt l c < columns.word
 rows-narrow {t} {l} laid c k =
     let kind : readColumn c .kind < 64 = omega (arith, column-known c k .0) in
     omega (

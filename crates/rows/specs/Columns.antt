@@ -68,13 +68,34 @@ owner = 17
 abbrev pub genericName : ℕ
 genericName = 18
 
--- How many columns there are. The layout has four numbers for each.
+-- How many columns there are.
 abbrev pub count : ℕ
 count = readCount
 
+-- The layout has so many numbers for each: where the column stands in the table's first row, in two words, the lower one first,
+abbrev pub numbers : ℕ
+numbers = 5
+
+abbrev pub startHigh : ℕ
+startHigh = 1
+
+-- how far it is to the next row, its bytes, and how many rows are kept.
+abbrev pub step : ℕ
+step = 2
+
+abbrev pub width : ℕ
+width = 3
+
+abbrev pub rows : ℕ
+rows = 4
+
+-- A word holds less than this.
+abbrev pub word : ℕ
+word = 4_294_967_296
+
 -- Behind those stand the options that the stream was opened with, the limit of rows and whether DeclSecurity counts,
 abbrev pub limit : ℕ
-limit = 4 * count
+limit = numbers * count
 
 abbrev pub security : ℕ
 security = limit + 1

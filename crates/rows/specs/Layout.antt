@@ -1,9 +1,9 @@
 -- The layout: the numbers by which code reads the columns of the record's tables (ECMA-335 II.22) on demand. Opening makes it once, by
--- what the walk found; the code has it as an array. Behind these numbers stand marks, which say what is known of a column's order.
+-- what the walk found; the code has it as words of 32 bits, and other words may follow its own. Behind these numbers stand marks, which say what is known of a column's order.
 use mathlib.Core.Path.{_≡_}
 use mathlib.Core.Bool.{cond}
 use mathlib.Core.List.{List, [], _∷_, _++_}
-use Prim.Native.Nat.{ℕ, _+_, _*_, _<_, _≤_}
+use Prim.Native.Nat.{ℕ, _+_, _*_, _/_, _%_, _<_, _≤_}
 use lib.Dec.{eqb}
 use lib.ListN.{length, getD}
 use Rattle.header.specs.Stream.{opened}
@@ -19,12 +19,13 @@ use Rattle.rows.specs.Columns as columns
 
 -- By the options, what opening found, and the length of the tables stream:
 module _ (o : Options) (h : Header) (n : ℕ) where
-  -- The four numbers of a column: where it stands in the table's first row, how far it is to the next row, its bytes, and how many
-  -- rows are kept.
+  -- The numbers of a column: where it stands in the table's first row, as a low and a high word, how far it is to the next row, its
+  -- bytes, and how many rows are kept.
   abbrev pub columnNumbers : Of → List ℕ
   columnNumbers c =
       let e = extent o h n (c .kind) in
-      (e .start + offsetIn (sizesIn o h) c) ∷ e .size ∷ bytesIn (sizesIn o h) c ∷ keptRows o h n (c .kind) ∷ []
+      let first = e .start + offsetIn (sizesIn o h) c in
+      (first % columns.word) ∷ (first / columns.word) ∷ e .size ∷ bytesIn (sizesIn o h) c ∷ keptRows o h n (c .kind) ∷ []
 
   -- Those of columns, one after the other.
   abbrev pub allNumbers : List Of → List ℕ
@@ -41,7 +42,7 @@ optionsIn l = record { limit = getD l columns.limit 0; security = eqb (getD l co
 
 -- the kept rows of the table that column c is of,
 abbrev pub rowsAt : List ℕ → ℕ → ℕ
-rowsAt l c = getD l (4 * c + 3) 0
+rowsAt l c = getD l (columns.numbers * c + columns.rows) 0
 
 abbrev pub headerIn : List ℕ → List ℕ → Header
 headerIn t l = opened (optionsIn l) t
@@ -60,10 +61,11 @@ Ascends f n = (i : ℕ) → i + 1 < n → f i ≤ f (i + 1)
 abbrev pub markAt : List ℕ → ℕ → ℕ
 markAt l c = getD l (columns.marks + c) 0
 
--- l is the layout of the tables stream t, which was opened and not refused. The limit of rows, an option, has 32 bits. The marks are true.
+-- l begins with the layout of the tables stream t, which was opened and not refused. The limit of rows, an option, has 32 bits. The marks are true.
 pub record Laid (t l : List ℕ) : Type 0 where
+  pub size : columns.size ≤ length l
   pub ready : headerIn t l .answer ≡ Ready
-  pub narrow : optionsIn l .limit < 4_294_967_296
+  pub narrow : optionsIn l .limit < columns.word
   pub is : (i : ℕ) → i < columns.marks → getD l i 0 ≡ getD (layoutOf (optionsIn l) (headerIn t l) (length t)) i 0
   pub marked : (c : ℕ) → c < columns.count → markAt l c ≡ 1 → Ascends (cell t l c) (rowsAt l c)
 

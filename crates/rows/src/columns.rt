@@ -40,10 +40,22 @@ pub const OWNER: usize = 17;
 
 pub const GENERIC_NAME: usize = 18;
 
-// How many columns there are. The layout has four numbers for each.
+// How many columns there are.
 pub const COUNT: usize = layouts::columns::COUNT;
+// The layout has so many numbers for each: where the column stands in the table's first row, in two words, the lower one first,
+pub const NUMBERS: usize = 5;
+
+pub const START_HIGH: usize = 1;
+// how far it is to the next row, its bytes, and how many rows are kept.
+pub const STEP: usize = 2;
+
+pub const WIDTH: usize = 3;
+
+pub const ROWS: usize = 4;
+// A word holds less than this.
+pub const WORD: usize = 0x1_0000_0000;
 // Behind those stand the options that the stream was opened with, the limit of rows and whether DeclSecurity counts,
-pub const LIMIT: usize = 4 * COUNT;
+pub const LIMIT: usize = NUMBERS * COUNT;
 
 pub const SECURITY: usize = LIMIT + 1;
 // and a mark for each column.

@@ -1,50 +1,53 @@
-// The rows of the tables (ECMA-335 II.22), read on demand: a column of a row, by the layout that opening made.
+// The rows of the tables (ECMA-335 II.22), read on demand: a column of a row, by the layout that opening made. A layout is a slice of
+// words: the numbers of each column that is read, the two options, and a mark for each column, 1 where it is known to ascend. More
+// words may follow.
 pub mod columns;
 
 use buffers::Told;
 use heaps::Part;
+use numbers::wide;
 ghost use mathlib.Core.Path.{_≡_};
-ghost use Prim.Native.Nat.{_<_};
+ghost use Prim.Native.Nat.{_<_, _≤_};
 ghost use lib.Dec.{eqb};
+ghost use lib.ListN.{length};
 ghost use Rattle.buffers.specs.Replies.{nameOr5};
 ghost use Rattle.buffers.specs.Telling.{ToldIs};
 ghost use Rattle.heaps.specs.Lookups.{stringAt, string};
 ghost use Rattle.rows.specs.Columns as columns;
 ghost use Rattle.rows.specs.Layout.{Laid, rowsAt, markAt, cell};
 
-// Four numbers for each column that is read, the two options, and a mark for each column: 1 where it is known to ascend.
-pub type Layout = [usize; columns::SIZE];
-
 // How many rows of the table of a column are kept.
-pub fn count_rows(layout: &Layout, column: usize) -> usize
-    requires { ⌜ column < columns.count ⌝ }
+pub fn count_rows(layout: &[u32], column: usize) -> usize
+    requires { ⌜ (column < columns.count) × (columns.size ≤ length (now layout)) ⌝ }
     ensures { λ r. ⌜ r ≡ rowsAt (now (layout .entry)) column ⌝ }
 {
-    layout[4 * column + 3]
+    wide(layout[columns::NUMBERS * column + columns::ROWS])
 }
 
 // Whether a column is marked: known to ascend.
-pub fn is_marked(layout: &Layout, column: usize) -> bool
-    requires { ⌜ column < columns.count ⌝ }
+pub fn is_marked(layout: &[u32], column: usize) -> bool
+    requires { ⌜ (column < columns.count) × (columns.size ≤ length (now layout)) ⌝ }
     ensures { λ r. ⌜ r ≡ eqb (markAt (now (layout .entry)) column) 1 ⌝ }
 {
     layout[columns::MARKS + column] == 1
 }
 
 // The number in a column of row i, from 0.
-pub fn read_column(tables: &[u8], layout: &Layout, column: usize, i: usize) -> u32
+pub fn read_column(tables: &[u8], layout: &[u32], column: usize, i: usize) -> u32
     requires { ⌜ Laid (now tables) (now layout) ⌝ }
     requires { ⌜ (column < columns.count) × (i < rowsAt (now layout) column) ⌝ }
     ensures { λ r. ⌜ r ≡ cell (now (tables .entry)) (now (layout .entry)) column i ⌝ }
 {
-    let first = layout[4 * column];
-    let step = layout[4 * column + 1];
-    let width = layout[4 * column + 2];
-    numbers::read_word(tables, first + i * step, width)
+    let at = columns::NUMBERS * column;
+    let low = wide(layout[at]);
+    let high = wide(layout[at + columns::START_HIGH]);
+    let step = wide(layout[at + columns::STEP]);
+    let width = wide(layout[at + columns::WIDTH]);
+    numbers::read_word(tables, low + high * columns::WORD + i * step, width)
 }
 
 // The string that it finds.
-pub fn read_string(tables: &[u8], strings: &[u8], layout: &Layout, column: usize, i: usize) -> Part
+pub fn read_string(tables: &[u8], strings: &[u8], layout: &[u32], column: usize, i: usize) -> Part
     requires { ⌜ Laid (now tables) (now layout) ⌝ }
     requires { ⌜ (column < columns.count) × (i < rowsAt (now layout) column) ⌝ }
     ensures { λ r. ⌜ r ≡ stringAt (now (strings .entry)) (cell (now (tables .entry)) (now (layout .entry)) column i) ⌝ }
@@ -59,7 +62,7 @@ pub fn tell_string(
     at: usize,
     tables: &[u8],
     strings: &[u8],
-    layout: &Layout,
+    layout: &[u32],
     column: usize,
     i: usize,
 ) -> Told

@@ -6,7 +6,6 @@ use keys::Row;
 use numbers::Uint;
 use numbers::wide;
 use rendering::Rendering;
-use rows::Layout;
 use rows::columns;
 ghost use mathlib.Core.Path.{_≡_};
 ghost use mathlib.Core.List.{List};
@@ -112,7 +111,7 @@ fn push_string(
     at: usize,
     tables: &[u8],
     strings: &[u8],
-    layout: &Layout,
+    layout: &[u32],
     column: usize,
     i: usize,
 ) -> Place
@@ -137,7 +136,7 @@ fn push_owned(
     at: usize,
     tables: &[u8],
     strings: &[u8],
-    layout: &Layout,
+    layout: &[u32],
     key: usize,
     i: usize,
 ) -> Place
@@ -158,7 +157,7 @@ pub fn push_generic(
     at: usize,
     tables: &[u8],
     strings: &[u8],
-    layout: &Layout,
+    layout: &[u32],
     owner: Owner,
     i: usize,
 ) -> Place
@@ -179,7 +178,7 @@ pub fn sig_generic(
     at: usize,
     tables: &[u8],
     strings: &[u8],
-    layout: &Layout,
+    layout: &[u32],
     owner: Owner,
     sig: &[u8],
     pos: usize,
@@ -202,7 +201,7 @@ pub fn sig_generic(
 }
 
 // The signature of TypeSpec row r, from 1.
-pub fn spec_blob(tables: &[u8], blob: &[u8], layout: &Layout, row: u32) -> Blob
+pub fn spec_blob(tables: &[u8], blob: &[u8], layout: &[u32], row: u32) -> Blob
     requires { ⌜ Laid (now tables) (now layout) ⌝ }
     ensures { λ r.
         ⌜ ((strings : List ℕ) → BlobIs (now (blob .entry))

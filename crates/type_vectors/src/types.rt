@@ -14,7 +14,6 @@ use check::same;
 use header::Opened;
 use header::base_options;
 use rendering::Rendering;
-use rows::Layout;
 use rows::columns;
 use sig_leaves::Owner;
 ghost use Rattle.rows.specs.Layout.{Laid};
@@ -226,7 +225,7 @@ fn render(
     blob: &[u8],
     owners: Owners,
 ) -> Came {
-    let mut layout = [0usize; columns::SIZE];
+    let mut layout = [0u32; columns::SIZE];
     match opening::open(tables, base_options(), &mut layout) {
         Opened::Refused(why) => Came {
             reply: Reply::No(why),
@@ -242,7 +241,7 @@ fn render_by(
     tables: &[u8],
     strings: &[u8],
     blob: &[u8],
-    layout: &Layout,
+    layout: &[u32],
     owners: Owners,
 ) -> Came
     requires { ⌜ Laid (now tables) (now layout) ⌝ }

@@ -79,7 +79,7 @@ count-params-of-requires c κs = search needs
 
 -- src/lib.rt:94:1
 returns : tie.Need-returns
-returns c = rw (c .before .enum-told .given .1) (class-counted (c .before .before .before .before .before .before .pre) _ _ (c .count-classes .ensures))
+returns c = rw (c .before .enum-told .given .1) (class-counted (c .before .before .before .before .before .before .before .pre) _ _ (c .count-classes .ensures))
 
 -- src/lib.rt:94:1
 returns-2 : tie.Need-returns-2

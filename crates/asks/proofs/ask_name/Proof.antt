@@ -10,6 +10,9 @@ use Rattle.answers.proofs.answer_name.Reads as answer-name-reads
 use Rattle.buffers.proofs.refuse.Reads as refuse-reads
 use Rattle.opening.proofs.open.Reads as open-reads
 
+slice-aggregate-open : tie.Need-slice-aggregate-open
+slice-aggregate-open c = search needs
+
 -- src/lib.rt:44:11
 open-requires : tie.Need-open-requires
 open-requires c κs = search needs
@@ -26,9 +29,12 @@ refuse-requires c κs = search needs
 enum-told : tie.Need-enum-told
 enum-told c = search needs
 
+slice-aggregate-answer-name : tie.Need-slice-aggregate-answer-name
+slice-aggregate-answer-name c = search needs
+
 -- src/lib.rt:46:28
 answer-name-requires : tie.Need-answer-name-requires
-answer-name-requires c κs = opened-laid (c .before .before .before .before .«open» .ensures) (c .before .before .enum-told .given .1)
+answer-name-requires c κs = opened-laid (c .before .before .before .before .before .«open» .ensures) (c .before .before .enum-told .given .1)
 
 -- src/lib.rt:32:1
 same-length : tie.Need-same-length
@@ -36,7 +42,7 @@ same-length c = search needs
 
 -- src/lib.rt:32:1
 returns : tie.Need-returns
-returns c = name-refused _ _ (c .before .before .before .before .before .before .before .«open» .ensures) (c .before .before .before .before .before .why .given .1) (nameCall (c .before .before .before .before .before .before .before .before .before .before .before .before .before .args .question)) (c .before .before .refuse .ensures)
+returns c = name-refused _ _ (c .before .before .before .before .before .before .before .before .«open» .ensures) (c .before .before .before .before .before .why .given .1) (nameCall (c .before .before .before .before .before .before .before .before .before .before .before .before .before .before .args .question)) (c .before .before .refuse .ensures)
 
 -- src/lib.rt:32:1
 same-length-2 : tie.Need-same-length-2
@@ -44,16 +50,18 @@ same-length-2 c = search needs
 
 -- src/lib.rt:32:1
 returns-2 : tie.Need-returns-2
-returns-2 c = name-ready _ _ (c .before .before .before .before .before .before .before .«open» .ensures) (c .before .before .before .before .before .enum-told .given .1) (nameCall (c .before .before .before .before .before .before .before .before .before .before .before .before .before .args .question)) (c .before .before .answer-name .ensures)
+returns-2 c = name-ready _ _ (c .before .before .before .before .before .before .before .before .«open» .ensures) (c .before .before .before .before .before .enum-told .given .1) (nameCall (c .before .before .before .before .before .before .before .before .before .before .before .before .before .before .args .question)) (c .before .before .answer-name .ensures)
 
 pub ask-name-spec : {M : Type 1} → statement M
 ask-name-spec =
     tie.close
     (tie.spec
+    slice-aggregate-open
     open-requires
     enum-known-why
     refuse-requires
     enum-told
+    slice-aggregate-answer-name
     answer-name-requires
     same-length
     returns

@@ -9,6 +9,9 @@ use Rattle.asks.proofs.ask_number.Lts as lts
 use Rattle.answers.proofs.answer_number.Reads as answer-number-reads
 use Rattle.opening.proofs.open.Reads as open-reads
 
+slice-aggregate-open : tie.Need-slice-aggregate-open
+slice-aggregate-open c = search needs
+
 -- src/lib.rt:25:11
 open-requires : tie.Need-open-requires
 open-requires c κs = search needs
@@ -21,19 +24,30 @@ enum-known-why c = search needs
 enum-told : tie.Need-enum-told
 enum-told c = search needs
 
+slice-aggregate-answer-number : tie.Need-slice-aggregate-answer-number
+slice-aggregate-answer-number c = search needs
+
 -- src/lib.rt:27:26
 answer-number-requires : tie.Need-answer-number-requires
-answer-number-requires c κs = opened-laid (c .before .before .before .«open» .ensures) (c .before .enum-told .given .1)
+answer-number-requires c κs = opened-laid (c .before .before .before .before .«open» .ensures) (c .before .enum-told .given .1)
 
 -- src/lib.rt:14:1
 returns : tie.Need-returns
-returns c = number-refused _ _ (c .before .before .before .«open» .ensures) (c .before .why .given .1) (numberCall (c .before .before .before .before .before .before .before .before .args .question))
+returns c = number-refused _ _ (c .before .before .before .before .«open» .ensures) (c .before .why .given .1) (numberCall (c .before .before .before .before .before .before .before .before .before .args .question))
 
 -- src/lib.rt:14:1
 returns-2 : tie.Need-returns-2
-returns-2 c = number-ready _ _ (c .before .before .before .before .«open» .ensures) (c .before .before .enum-told .given .1) (numberCall (c .before .before .before .before .before .before .before .before .before .args .question)) (c .answer-number .result) (c .answer-number .ensures)
+returns-2 c = number-ready _ _ (c .before .before .before .before .before .«open» .ensures) (c .before .before .enum-told .given .1) (numberCall (c .before .before .before .before .before .before .before .before .before .before .args .question)) (c .answer-number .result) (c .answer-number .ensures)
 
 pub ask-number-spec : {M : Type 1} → statement M
 ask-number-spec =
     tie.close
-    (tie.spec open-requires enum-known-why enum-told answer-number-requires returns returns-2)
+    (tie.spec
+    slice-aggregate-open
+    open-requires
+    enum-known-why
+    enum-told
+    slice-aggregate-answer-number
+    answer-number-requires
+    returns
+    returns-2)

@@ -28,7 +28,7 @@ same-length c = search needs
 -- src/lib.rt:105:1
 returns : tie.Need-returns
 returns c =
-    let s = c .before .before .before .before .before .before .before .before .before in
+    let s = c .before .before .before .before .before .before .before .before .before .before in
     rw (type-name (s .pre .0) (s .args .strings .now) (s .args .blob .now) (s .args .row .0) (s .pre .1) _ (s .args .index) (ap (λ (n : ℕ). 2 * n) (c .before .before .before .before .wide .ensures .0)))
     at (c .before .before .get-type-fullname .ensures)
 

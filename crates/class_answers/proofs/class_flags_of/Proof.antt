@@ -14,7 +14,7 @@ use Rattle.rows.specs.Columns as columns
 
 -- src/lib.rt:20:11
 class-row-requires : tie.Need-class-row-requires
-class-row-requires c κs = rows-narrow (c .before .pre) columns.typeName (omega arith)
+class-row-requires c κs = (rows-narrow (c .before .before .pre) columns.typeName (omega arith), c .before .before .pre .size)
 
 -- src/lib.rt:21:23
 enum-known-row : tie.Need-enum-known-row
@@ -31,7 +31,7 @@ cast-read-column c = search needs
 -- src/lib.rt:23:17
 read-column-requires : tie.Need-read-column-requires
 read-column-requires c κs =
-    let laid = c .before .before .before .before .before .before .pre in
+    let laid = c .before .before .before .before .before .before .before .pre in
     let at = class-found (c .before .before .before .before .class-row .ensures) (c .before .before .row .given .1) in
     (laid, (omega arith, omega (arith, at .0, at .1, same-rows laid columns.typeName columns.typeFlags (omega arith) (omega arith) refl)))
 
@@ -46,11 +46,11 @@ enum-told c = search needs
 -- src/lib.rt:16:1
 returns : tie.Need-returns
 returns c = λ strings blob.
-    class-flags (c .before .before .before .before .before .before .before .pre) strings blob _ (class-found (c .before .before .before .before .before .class-row .ensures) (c .before .before .before .row .given .1)) (c .read-column .ensures)
+    class-flags (c .before .before .before .before .before .before .before .before .pre) strings blob _ (class-found (c .before .before .before .before .before .class-row .ensures) (c .before .before .before .row .given .1)) (c .read-column .ensures)
 
 -- src/lib.rt:16:1
 returns-2 : tie.Need-returns-2
-returns-2 c = λ strings blob. no-class-flags (c .before .before .before .before .pre) strings blob _ (class-missed (c .before .before .class-row .ensures) (c .enum-told .given .1))
+returns-2 c = λ strings blob. no-class-flags (c .before .before .before .before .before .pre) strings blob _ (class-missed (c .before .before .class-row .ensures) (c .enum-told .given .1))
 
 pub class-flags-of-spec : {M : Type 1} → statement M
 class-flags-of-spec =

@@ -13,7 +13,7 @@ use Rattle.rows.specs.Columns as columns
 
 -- src/lib.rt:97:11
 class-row-requires : tie.Need-class-row-requires
-class-row-requires c κs = rows-narrow (c .before .before .before .pre) columns.typeName (omega arith)
+class-row-requires c κs = (rows-narrow (c .before .before .before .before .pre) columns.typeName (omega arith), c .before .before .before .before .pre .size)
 
 -- src/lib.rt:98:23
 enum-known-row : tie.Need-enum-known-row
@@ -23,7 +23,7 @@ enum-known-row c = search needs
 count-bases-requires : tie.Need-count-bases-requires
 count-bases-requires c κs =
     let at = class-found (c .before .before .before .class-row .ensures) (c .before .row .given .1) in
-    (c .before .before .before .before .before .before .before .pre, (omega (arith, at .0), omega (arith, at .0, at .1)))
+    (c .before .before .before .before .before .before .before .before .pre, (omega (arith, at .0), omega (arith, at .0, at .1)))
 
 -- src/lib.rt:99:38
 enum-told : tie.Need-enum-told
@@ -31,11 +31,11 @@ enum-told c = search needs
 
 -- src/lib.rt:87:1
 returns : tie.Need-returns
-returns c = class-bases (c .before .before .before .before .before .before .before .before .pre) _ _ _ (class-found (c .before .before .before .before .class-row .ensures) (c .before .before .row .given .1)) (c .count-bases .ensures)
+returns c = class-bases (c .before .before .before .before .before .before .before .before .before .pre) _ _ _ (class-found (c .before .before .before .before .class-row .ensures) (c .before .before .row .given .1)) (c .count-bases .ensures)
 
 -- src/lib.rt:87:1
 returns-2 : tie.Need-returns-2
-returns-2 c = no-class-bases (c .before .before .before .before .before .before .pre) _ _ _ (class-missed (c .before .before .class-row .ensures) (c .enum-told .given .1))
+returns-2 c = no-class-bases (c .before .before .before .before .before .before .before .pre) _ _ _ (class-missed (c .before .before .class-row .ensures) (c .enum-told .given .1))
 
 pub count-bases-of-spec : {M : Type 1} → statement M
 count-bases-of-spec =

@@ -13,7 +13,7 @@ use Rattle.rows.specs.Columns as columns
 
 -- src/lib.rt:57:11
 class-row-requires : tie.Need-class-row-requires
-class-row-requires c κs = rows-narrow (c .before .pre) columns.typeName (omega arith)
+class-row-requires c κs = (rows-narrow (c .before .before .pre) columns.typeName (omega arith), c .before .before .pre .size)
 
 -- src/lib.rt:58:23
 enum-known-row : tie.Need-enum-known-row
@@ -38,11 +38,11 @@ enum-told c = search needs
 -- src/lib.rt:53:1
 returns : tie.Need-returns
 returns c = λ strings blob.
-    class-generics (c .before .before .before .before .before .before .before .pre) strings blob _ (class-found (c .before .before .before .before .before .class-row .ensures) (c .before .before .before .row .given .1)) (c .count-generics .ensures strings blob)
+    class-generics (c .before .before .before .before .before .before .before .before .pre) strings blob _ (class-found (c .before .before .before .before .before .class-row .ensures) (c .before .before .before .row .given .1)) (c .count-generics .ensures strings blob)
 
 -- src/lib.rt:53:1
 returns-2 : tie.Need-returns-2
-returns-2 c = λ strings blob. no-class-generics (c .before .before .before .before .pre) strings blob _ (class-missed (c .before .before .class-row .ensures) (c .enum-told .given .1))
+returns-2 c = λ strings blob. no-class-generics (c .before .before .before .before .before .pre) strings blob _ (class-missed (c .before .before .class-row .ensures) (c .enum-told .given .1))
 
 pub count-generics-of-spec : {M : Type 1} → statement M
 count-generics-of-spec =

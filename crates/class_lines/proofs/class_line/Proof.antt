@@ -40,7 +40,7 @@ same-length-2 c = search needs
 -- src/lib.rt:82:1
 returns : tie.Need-returns
 returns c = λ m i. class-goes _ _ m i (c .before .before .before .before .before .before .before .cursor-at .ensures) (c .before .before .before .before .before .before .done-cursor .ensures)
-    (c .before .before .name-step .ensures _ _ (c .before .before .before .before .before .before .before .before .before .before .before .before .before .before .before .before .before .pre .1) (c .before .before .before .before .before .before .before .before .before .before .write-class-name .ensures _))
+    (c .before .before .name-step .ensures _ _ (c .before .before .before .before .before .before .before .before .before .before .before .before .before .before .before .before .before .before .pre .1) (c .before .before .before .before .before .before .before .before .before .before .write-class-name .ensures _))
 
 pub class-line-spec : {M : Type 1} → statement M
 class-line-spec =

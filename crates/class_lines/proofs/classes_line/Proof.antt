@@ -34,7 +34,7 @@ same-length c = search needs
 returns : tie.Need-returns
 returns c = λ d m i.
     let counted = c .before .before .before .before .before .before in
-    classes-goes _ d m i (Is (counted .count-classes .result)) (class-counted (counted .before .before .before .before .before .pre) _ _ (counted .count-classes .ensures)) (c .before .before .before .cursor-at .ensures) (c .before .before .number-step .ensures)
+    classes-goes _ d m i (Is (counted .count-classes .result)) (class-counted (counted .before .before .before .before .before .before .pre) _ _ (counted .count-classes .ensures)) (c .before .before .before .cursor-at .ensures) (c .before .before .number-step .ensures)
 
 pub classes-line-spec : {M : Type 1} → statement M
 classes-line-spec =

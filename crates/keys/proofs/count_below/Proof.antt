@@ -53,7 +53,7 @@ loop-again : tie.Need-loop-again Inv-loop μ-loop
 loop-again c =
     let read = c .before in
     let l = read .before .before .loop in
-    let start = read .before .before .before .before .before in
+    let start = read .before .before .before .before .before .before in
     halve-up _ _ _ (start .pre .1 .1) (l .inv) _ (omega arith) (omega (arith, read .before .loop-test .taken)) (read .read-column .ensures) (c .if1 .taken)
 
 -- src/lib.rt:28:5
@@ -65,7 +65,7 @@ loop-again-2 : tie.Need-loop-again-2 Inv-loop μ-loop
 loop-again-2 c =
     let read = c .before in
     let l = read .before .before .loop in
-    let start = read .before .before .before .before .before in
+    let start = read .before .before .before .before .before .before in
     halve-down _ _ _ (start .pre .1 .1) (l .inv) _ (omega arith) (omega (arith, read .before .loop-test .taken)) (read .read-column .ensures) (c .if1 .left)
 
 -- src/lib.rt:21:1

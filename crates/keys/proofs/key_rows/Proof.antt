@@ -25,7 +25,7 @@ returns c = search needs
 -- src/lib.rt:49:9
 count-below-requires : tie.Need-count-below-requires
 count-below-requires c κs =
-    let start = c .before .before .before .before in
+    let start = c .before .before .before .before .before in
     (start .pre .0, (start .pre .1, marked-ascends (start .pre .0) _ (start .pre .1) (c .before .is-marked .ensures) (not-false _ (c .if1 .left))))
 
 -- src/lib.rt:51:9
@@ -39,7 +39,7 @@ add-count-below c = search needs
 -- src/lib.rt:53:9
 count-below-requires-2 : tie.Need-count-below-requires-2
 count-below-requires-2 c κs =
-    let start = c .before .before .before .before .before .before in
+    let start = c .before .before .before .before .before .before .before in
     (start .pre .0, (start .pre .1, marked-ascends (start .pre .0) _ (start .pre .1) (c .before .before .before .is-marked .ensures) (not-false _ (c .before .before .if1 .left))))
 
 -- src/lib.rt:40:1

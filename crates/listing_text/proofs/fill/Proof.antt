@@ -14,6 +14,9 @@ use Rattle.listing_text.proofs.fill_refused.Reads as fill-refused-reads
 use Rattle.marks.proofs.mark_columns.Reads as mark-columns-reads
 use Rattle.opening.proofs.open.Reads as open-reads
 
+slice-aggregate-open : tie.Need-slice-aggregate-open
+slice-aggregate-open c = search needs
+
 -- src/lib.rt:212:11
 open-requires : tie.Need-open-requires
 open-requires c κs = search needs
@@ -34,20 +37,26 @@ end-piece-requires c κs = search needs
 enum-told : tie.Need-enum-told
 enum-told c = search needs
 
+slice-aggregate-mark-columns : tie.Need-slice-aggregate-mark-columns
+slice-aggregate-mark-columns c = search needs
+
 -- src/lib.rt:218:13
 mark-columns-requires : tie.Need-mark-columns-requires
-mark-columns-requires c κs = opened-laid (c .before .before .before .«open» .ensures) (c .before .enum-told .given .1)
+mark-columns-requires c κs = opened-laid (c .before .before .before .before .«open» .ensures) (c .before .enum-told .given .1)
 
 -- src/lib.rt:227:17
 slice-aggregate-fill-opened : tie.Need-slice-aggregate-fill-opened
 slice-aggregate-fill-opened c = search needs
 
+slice-aggregate-fill-opened-2 : tie.Need-slice-aggregate-fill-opened-2
+slice-aggregate-fill-opened-2 c = search needs
+
 -- src/lib.rt:220:17
 fill-opened-requires : tie.Need-fill-opened-requires
 fill-opened-requires c κs =
-    let marked = c .before .before .before in
+    let marked = c .before .before .before .before in
     let told = marked .before .before in
-    let opened = told .before .before .«open» .ensures in
+    let opened = told .before .before .before .«open» .ensures in
     let m = marked .mark-columns .ensures in
     (m .laid, (λ s b. marked-view m s b ∙ opened-view opened (told .enum-told .given .1) s b, length-replicate {A = ℕ} 4096 0))
 
@@ -63,7 +72,7 @@ same-length c = search needs
 returns : tie.Need-returns
 returns c =
     let at-why = c .before .before .before .before .before .before .before .before .before in
-    let opened = at-why .before .before .«open» .ensures in
+    let opened = at-why .before .before .before .«open» .ensures in
     c .before .before .end-piece .ensures _ _ (c .before .before .before .before .before .before .fill-refused .ensures _ _ _ _ (sym (opened .answer) ∙ at-why .why .given .1))
 
 -- src/lib.rt:200:1
@@ -78,13 +87,16 @@ pub fill-spec : {M : Type 1} → statement M
 fill-spec =
     tie.close
     (tie.spec
+    slice-aggregate-open
     open-requires
     enum-known-why
     fill-refused-requires
     end-piece-requires
     enum-told
+    slice-aggregate-mark-columns
     mark-columns-requires
     slice-aggregate-fill-opened
+    slice-aggregate-fill-opened-2
     fill-opened-requires
     end-piece-requires-2
     same-length

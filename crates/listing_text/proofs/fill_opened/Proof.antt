@@ -42,7 +42,7 @@ returns c = going-done (c .before .before .before .loop .inv .0) (c .before .is-
 
 -- src/lib.rt:154:13
 next-line-requires : tie.Need-next-line-requires Inv-loop μ-loop
-next-line-requires c κs = (c .before .before .before .before .before .before .before .before .before .before .before .pre .0, (c .before .before .before .before .before .before .before .before .before .before .before .pre .1 .0, c .before .before .before .before .before .loop .inv .1 ∙ c .before .before .before .before .before .before .before .before .before .before .before .pre .1 .1))
+next-line-requires c κs = (c .before .before .before .before .before .before .before .before .before .before .before .before .pre .0, (c .before .before .before .before .before .before .before .before .before .before .before .before .pre .1 .0, c .before .before .before .before .before .loop .inv .1 ∙ c .before .before .before .before .before .before .before .before .before .before .before .before .pre .1 .1))
 
 -- src/lib.rt:157:13
 same-length-3 : tie.Need-same-length-3 Inv-loop μ-loop

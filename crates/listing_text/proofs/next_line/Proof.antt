@@ -136,7 +136,7 @@ same-length-2 c = search needs
 
 -- src/lib.rt:48:1
 returns-2 : tie.Need-returns-2
-returns-2 c = at-view (c .before .before .before .before .before .before .before .before .before .before .before .before .pre .1 .0 _ _) _ (c .before .before .before .before .enum-told2 .given .1) (c .before .before .classes-line .ensures _ _ _)
+returns-2 c = at-view (c .before .before .before .before .before .before .before .before .before .before .before .before .before .pre .1 .0 _ _) _ (c .before .before .before .before .enum-told2 .given .1) (c .before .before .classes-line .ensures _ _ _)
 
 -- src/lib.rt:48:1
 same-length-3 : tie.Need-same-length-3
@@ -148,7 +148,7 @@ same-length-4 c = search needs
 
 -- src/lib.rt:48:1
 returns-3 : tie.Need-returns-3
-returns-3 c = at-view (c .before .before .before .before .before .before .before .before .before .before .before .before .before .before .before .pre .1 .0 _ _) _ (c .before .before .before .before .before .before .before .enum-told3 .given .1) (c .before .before .before .before .class-line .ensures _ _)
+returns-3 c = at-view (c .before .before .before .before .before .before .before .before .before .before .before .before .before .before .before .before .pre .1 .0 _ _) _ (c .before .before .before .before .before .before .before .enum-told3 .given .1) (c .before .before .before .before .class-line .ensures _ _)
 
 -- src/lib.rt:48:1
 same-length-5 : tie.Need-same-length-5
@@ -156,7 +156,7 @@ same-length-5 c = search needs
 
 -- src/lib.rt:48:1
 returns-4 : tie.Need-returns-4
-returns-4 c = at-view (c .before .before .before .before .before .before .before .before .before .before .before .before .pre .1 .0 _ _) _ (c .before .before .before .before .enum-told4 .given .1) (c .before .before .flags-line .ensures _ _)
+returns-4 c = at-view (c .before .before .before .before .before .before .before .before .before .before .before .before .before .pre .1 .0 _ _) _ (c .before .before .before .before .enum-told4 .given .1) (c .before .before .flags-line .ensures _ _)
 
 -- src/lib.rt:48:1
 same-length-6 : tie.Need-same-length-6
@@ -168,7 +168,7 @@ same-length-7 c = search needs
 
 -- src/lib.rt:48:1
 returns-5 : tie.Need-returns-5
-returns-5 c = at-view (c .before .before .before .before .before .before .before .before .before .before .before .before .before .before .before .pre .1 .0 _ _) _ (c .before .before .before .before .before .before .before .enum-told5 .given .1) (c .before .before .before .before .generic-line .ensures _)
+returns-5 c = at-view (c .before .before .before .before .before .before .before .before .before .before .before .before .before .before .before .before .pre .1 .0 _ _) _ (c .before .before .before .before .before .before .before .enum-told5 .given .1) (c .before .before .before .before .generic-line .ensures _)
 
 -- src/lib.rt:48:1
 same-length-8 : tie.Need-same-length-8
@@ -180,7 +180,7 @@ same-length-9 c = search needs
 
 -- src/lib.rt:48:1
 returns-6 : tie.Need-returns-6
-returns-6 c = at-view (c .before .before .before .before .before .before .before .before .before .before .before .before .before .before .before .pre .1 .0 _ _) _ (c .before .before .before .before .before .before .before .enum-told6 .given .1) (c .before .before .before .before .base-line .ensures _)
+returns-6 c = at-view (c .before .before .before .before .before .before .before .before .before .before .before .before .before .before .before .before .pre .1 .0 _ _) _ (c .before .before .before .before .before .before .before .enum-told6 .given .1) (c .before .before .before .before .base-line .ensures _)
 
 -- src/lib.rt:48:1
 same-length-10 : tie.Need-same-length-10
@@ -192,7 +192,7 @@ same-length-11 c = search needs
 
 -- src/lib.rt:48:1
 returns-7 : tie.Need-returns-7
-returns-7 c = at-view (c .before .before .before .before .before .before .before .before .before .before .before .before .before .before .before .pre .1 .0 _ _) _ (c .before .before .before .before .before .before .before .enum-told7 .given .1) (c .before .before .before .before .method-line .ensures _)
+returns-7 c = at-view (c .before .before .before .before .before .before .before .before .before .before .before .before .before .before .before .before .pre .1 .0 _ _) _ (c .before .before .before .before .before .before .before .enum-told7 .given .1) (c .before .before .before .before .method-line .ensures _)
 
 -- src/lib.rt:48:1
 same-length-12 : tie.Need-same-length-12
@@ -200,7 +200,7 @@ same-length-12 c = search needs
 
 -- src/lib.rt:48:1
 returns-8 : tie.Need-returns-8
-returns-8 c = at-view (c .before .before .before .before .before .before .before .before .before .before .before .before .pre .1 .0 _ _) _ (c .before .before .before .before .enum-told8 .given .1) (c .before .before .method-flags-line .ensures _)
+returns-8 c = at-view (c .before .before .before .before .before .before .before .before .before .before .before .before .before .pre .1 .0 _ _) _ (c .before .before .before .before .enum-told8 .given .1) (c .before .before .method-flags-line .ensures _)
 
 -- src/lib.rt:48:1
 same-length-13 : tie.Need-same-length-13
@@ -212,7 +212,7 @@ same-length-14 c = search needs
 
 -- src/lib.rt:48:1
 returns-9 : tie.Need-returns-9
-returns-9 c = at-view (c .before .before .before .before .before .before .before .before .before .before .before .before .before .before .before .pre .1 .0 _ _) _ (c .before .before .before .before .before .before .before .enum-told9 .given .1) (c .before .before .before .before .method-generic-line .ensures)
+returns-9 c = at-view (c .before .before .before .before .before .before .before .before .before .before .before .before .before .before .before .before .pre .1 .0 _ _) _ (c .before .before .before .before .before .before .before .enum-told9 .given .1) (c .before .before .before .before .method-generic-line .ensures)
 
 -- src/lib.rt:48:1
 same-length-15 : tie.Need-same-length-15
@@ -224,7 +224,7 @@ same-length-16 c = search needs
 
 -- src/lib.rt:48:1
 returns-10 : tie.Need-returns-10
-returns-10 c = at-view (c .before .before .before .before .before .before .before .before .before .before .before .before .before .before .before .pre .1 .0 _ _) _ (c .before .before .before .before .before .before .before .enum-told10 .given .1) (c .before .before .before .before .returns-line .ensures _)
+returns-10 c = at-view (c .before .before .before .before .before .before .before .before .before .before .before .before .before .before .before .before .pre .1 .0 _ _) _ (c .before .before .before .before .before .before .before .enum-told10 .given .1) (c .before .before .before .before .returns-line .ensures _)
 
 -- src/lib.rt:48:1
 same-length-17 : tie.Need-same-length-17
@@ -236,7 +236,7 @@ same-length-18 c = search needs
 
 -- src/lib.rt:48:1
 returns-11 : tie.Need-returns-11
-returns-11 c = at-view (c .before .before .before .before .before .before .before .before .before .before .before .before .before .before .before .pre .1 .0 _ _) _ (c .before .before .before .before .before .before .before .enum-told11 .given .1) (c .before .before .before .before .param-type-line .ensures)
+returns-11 c = at-view (c .before .before .before .before .before .before .before .before .before .before .before .before .before .before .before .before .pre .1 .0 _ _) _ (c .before .before .before .before .before .before .before .enum-told11 .given .1) (c .before .before .before .before .param-type-line .ensures)
 
 -- src/lib.rt:48:1
 same-length-19 : tie.Need-same-length-19
@@ -248,7 +248,7 @@ same-length-20 c = search needs
 
 -- src/lib.rt:48:1
 returns-12 : tie.Need-returns-12
-returns-12 c = at-view (c .before .before .before .before .before .before .before .before .before .before .before .before .before .before .before .pre .1 .0 _ _) _ (c .before .before .before .before .before .before .before .enum-told12 .given .1) (c .before .before .before .before .param-name-line .ensures)
+returns-12 c = at-view (c .before .before .before .before .before .before .before .before .before .before .before .before .before .before .before .before .pre .1 .0 _ _) _ (c .before .before .before .before .before .before .before .enum-told12 .given .1) (c .before .before .before .before .param-name-line .ensures)
 
 -- src/lib.rt:48:1
 same-length-21 : tie.Need-same-length-21

@@ -6,29 +6,28 @@ use Rattle.marks.proofs.mark_columns.Reads as reads
 use Rattle.marks.proofs.mark_columns.Lts as lts
 use Rattle.marks.proofs.mark_column.Reads as mark-column-reads
 
--- src/lib.rt:47:5
 mark-column-requires : tie.Need-mark-column-requires
 mark-column-requires c κs = search needs
 
--- src/lib.rt:48:5
 mark-column-requires-2 : tie.Need-mark-column-requires-2
 mark-column-requires-2 c κs = search needs
 
--- src/lib.rt:49:5
 mark-column-requires-3 : tie.Need-mark-column-requires-3
 mark-column-requires-3 c κs = search needs
 
--- src/lib.rt:50:5
 mark-column-requires-4 : tie.Need-mark-column-requires-4
 mark-column-requires-4 c κs = search needs
 
--- src/lib.rt:43:1
+same-length : tie.Need-same-length
+same-length c = search needs
+
 returns : tie.Need-returns
 returns c =
-    let third = c .before .before in
-    let second = third .before .before in
-    let first = second .before .before in
-    marked-then (marked-then (marked-then (first .mark-column .ensures) (second .mark-column2 .ensures)) (third .mark-column3 .ensures)) (c .mark-column4 .ensures)
+    let fourth = c .before .before in
+    let third = fourth .before .before .before .before in
+    let second = third .before .before .before .before in
+    let first = second .before .before .before .before in
+    marked-then (marked-then (marked-then (first .mark-column .ensures) (second .mark-column2 .ensures)) (third .mark-column3 .ensures)) (fourth .mark-column4 .ensures)
 
 pub mark-columns-spec : {M : Type 1} → statement M
 mark-columns-spec =
@@ -38,4 +37,5 @@ mark-columns-spec =
     mark-column-requires-2
     mark-column-requires-3
     mark-column-requires-4
+    same-length
     returns)

@@ -23,21 +23,21 @@ add-count-generics : tie.Need-add-count-generics
 add-count-generics c =
     let few = c .before .i in
     let at = method-found (c .before .before .before .method-row .ensures [] []) (few .given .1) in
-    record { fits = omega (arith, at .1, methods-narrow (c .before .before .before .before .before .pre) [] []) }
+    record { fits = omega (arith, at .1, methods-narrow (c .before .before .before .before .before .before .pre) [] []) }
 
 -- src/lib.rt:69:81
 mul-count-generics : tie.Need-mul-count-generics
 mul-count-generics c =
     let few = c .before .i in
     let at = method-found (c .before .before .before .method-row .ensures [] []) (few .given .1) in
-    record { fits = omega (arith, at .1, methods-narrow (c .before .before .before .before .before .pre) [] []) }
+    record { fits = omega (arith, at .1, methods-narrow (c .before .before .before .before .before .before .pre) [] []) }
 
 -- src/lib.rt:69:81
 add-count-generics-2 : tie.Need-add-count-generics-2
 add-count-generics-2 c =
     let few = c .before .i in
     let at = method-found (c .before .before .before .method-row .ensures [] []) (few .given .1) in
-    record { fits = omega (arith, at .1, methods-narrow (c .before .before .before .before .before .pre) [] []) }
+    record { fits = omega (arith, at .1, methods-narrow (c .before .before .before .before .before .before .pre) [] []) }
 
 -- src/lib.rt:69:42
 count-generics-requires : tie.Need-count-generics-requires
@@ -50,11 +50,11 @@ enum-told c = search needs
 -- src/lib.rt:64:1
 returns : tie.Need-returns
 returns c = λ strings blob.
-    method-generics (c .before .before .before .before .before .before .pre) strings blob _ _ (method-found (c .before .before .before .before .method-row .ensures strings blob) (c .before .before .i .given .1)) (c .count-generics .ensures strings blob)
+    method-generics (c .before .before .before .before .before .before .before .pre) strings blob _ _ (method-found (c .before .before .before .before .method-row .ensures strings blob) (c .before .before .i .given .1)) (c .count-generics .ensures strings blob)
 
 -- src/lib.rt:64:1
 returns-2 : tie.Need-returns-2
-returns-2 c = λ strings blob. no-method-generics (c .before .before .before .before .pre) strings blob _ _ (method-missed (c .before .before .method-row .ensures strings blob) (c .enum-told .given .1))
+returns-2 c = λ strings blob. no-method-generics (c .before .before .before .before .before .pre) strings blob _ _ (method-missed (c .before .before .method-row .ensures strings blob) (c .enum-told .given .1))
 
 pub count-method-generics-of-spec : {M : Type 1} → statement M
 count-method-generics-of-spec =

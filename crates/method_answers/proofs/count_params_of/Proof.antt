@@ -25,7 +25,7 @@ count-params-requires : tie.Need-count-params-requires
 count-params-requires c κs =
     let at-i = c .before in
     let at-method-row = at-i .before .before in
-    let start = at-method-row .before .before .before .before in
+    let start = at-method-row .before .before .before .before .before in
     let at = method-found (at-method-row .method-row .ensures [] []) (at-i .i .given .1) in
     (start .pre, method-inside (start .pre) [] [] _ _ at columns.methodSignature (omega arith) refl)
 
@@ -38,14 +38,14 @@ returns : tie.Need-returns
 returns c =
     let at-i = c .before .before in
     let at-method-row = at-i .before .before in
-    let start = at-method-row .before .before .before .before in
+    let start = at-method-row .before .before .before .before .before in
     method-parameters (start .pre) _ _ _ _ (method-found (at-method-row .method-row .ensures _ _) (at-i .i .given .1)) (c .count-params .ensures)
 
 -- src/lib.rt:123:1
 returns-2 : tie.Need-returns-2
 returns-2 c =
     let at-method-row = c .before .before in
-    let start = at-method-row .before .before .before .before in
+    let start = at-method-row .before .before .before .before .before in
     no-method-parameters (start .pre) _ _ _ _ (method-missed (at-method-row .method-row .ensures _ _) (c .enum-told .given .1))
 
 pub count-params-of-spec : {M : Type 1} → statement M

@@ -23,7 +23,7 @@ enum-known-i c = search needs
 -- src/lib.rt:36:17
 read-column-requires : tie.Need-read-column-requires
 read-column-requires c κs =
-    let laid = c .before .before .before .before .before .pre in
+    let laid = c .before .before .before .before .before .before .pre in
     let at = method-found (c .before .before .before .method-row .ensures [] []) (c .before .i .given .1) in
     (laid, (omega arith, omega (arith, method-inside laid [] [] _ _ at columns.methodFlags (omega arith) refl)))
 
@@ -38,11 +38,11 @@ enum-told c = search needs
 -- src/lib.rt:30:1
 returns : tie.Need-returns
 returns c = λ strings blob.
-    method-flags (c .before .before .before .before .before .before .pre) strings blob _ _ (method-found (c .before .before .before .before .method-row .ensures strings blob) (c .before .before .i .given .1)) (c .read-column .ensures)
+    method-flags (c .before .before .before .before .before .before .before .pre) strings blob _ _ (method-found (c .before .before .before .before .method-row .ensures strings blob) (c .before .before .i .given .1)) (c .read-column .ensures)
 
 -- src/lib.rt:30:1
 returns-2 : tie.Need-returns-2
-returns-2 c = λ strings blob. no-method-flags (c .before .before .before .before .pre) strings blob _ _ (method-missed (c .before .before .method-row .ensures strings blob) (c .enum-told .given .1))
+returns-2 c = λ strings blob. no-method-flags (c .before .before .before .before .before .pre) strings blob _ _ (method-missed (c .before .before .method-row .ensures strings blob) (c .enum-told .given .1))
 
 pub method-flags-of-spec : {M : Type 1} → statement M
 method-flags-of-spec =

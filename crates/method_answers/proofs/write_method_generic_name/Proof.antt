@@ -24,21 +24,21 @@ add-owner : tie.Need-add-owner
 add-owner c =
     let few = c .before .i in
     let at = method-found (c .before .before .before .method-row .ensures [] []) (few .given .1) in
-    record { fits = omega (arith, at .1, methods-narrow (c .before .before .before .before .before .before .before .pre) [] []) }
+    record { fits = omega (arith, at .1, methods-narrow (c .before .before .before .before .before .before .before .before .pre) [] []) }
 
 -- src/lib.rt:89:25
 mul-owner : tie.Need-mul-owner
 mul-owner c =
     let few = c .before .i in
     let at = method-found (c .before .before .before .method-row .ensures [] []) (few .given .1) in
-    record { fits = omega (arith, at .1, methods-narrow (c .before .before .before .before .before .before .before .pre) [] []) }
+    record { fits = omega (arith, at .1, methods-narrow (c .before .before .before .before .before .before .before .before .pre) [] []) }
 
 -- src/lib.rt:89:25
 add-owner-2 : tie.Need-add-owner-2
 add-owner-2 c =
     let few = c .before .i in
     let at = method-found (c .before .before .before .method-row .ensures [] []) (few .given .1) in
-    record { fits = omega (arith, at .1, methods-narrow (c .before .before .before .before .before .before .before .pre) [] []) }
+    record { fits = omega (arith, at .1, methods-narrow (c .before .before .before .before .before .before .before .before .pre) [] []) }
 
 -- src/lib.rt:90:13
 write-generic-requires : tie.Need-write-generic-requires
@@ -59,7 +59,7 @@ same-length c = search needs
 -- src/lib.rt:75:1
 returns : tie.Need-returns
 returns c = λ blob.
-    method-generic (c .before .before .before .before .before .before .before .before .before .before .before .pre) _ blob _ _ (method-found (c .before .before .before .before .before .before .before .method-row .ensures _ blob) (c .before .before .before .before .before .i .given .1)) _ (c .before .before .write-generic .ensures blob)
+    method-generic (c .before .before .before .before .before .before .before .before .before .before .before .before .pre) _ blob _ _ (method-found (c .before .before .before .before .before .before .before .method-row .ensures _ blob) (c .before .before .before .before .before .i .given .1)) _ (c .before .before .write-generic .ensures blob)
 
 -- src/lib.rt:75:1
 same-length-2 : tie.Need-same-length-2
@@ -67,7 +67,7 @@ same-length-2 c = search needs
 
 -- src/lib.rt:75:1
 returns-2 : tie.Need-returns-2
-returns-2 c = λ blob. no-method-generic (c .before .before .before .before .before .before .before .before .before .before .pre) _ blob _ _ (method-missed (c .before .before .before .before .before .before .method-row .ensures _ blob) (c .before .before .before .before .enum-told .given .1)) (c .before .before .refuse .ensures) _
+returns-2 c = λ blob. no-method-generic (c .before .before .before .before .before .before .before .before .before .before .before .pre) _ blob _ _ (method-missed (c .before .before .before .before .before .before .method-row .ensures _ blob) (c .before .before .before .before .enum-told .given .1)) (c .before .before .refuse .ensures) _
 
 pub write-method-generic-name-spec : {M : Type 1} → statement M
 write-method-generic-name-spec =

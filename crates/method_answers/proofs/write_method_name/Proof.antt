@@ -24,7 +24,7 @@ enum-known-i c = search needs
 -- src/lib.rt:57:13
 write-string-requires : tie.Need-write-string-requires
 write-string-requires c κs =
-    let laid = c .before .before .before .before .before .before .before .before .pre in
+    let laid = c .before .before .before .before .before .before .before .before .before .pre in
     let at = method-found (c .before .before .before .before .method-row .ensures [] []) (c .before .before .i .given .1) in
     (laid, (omega arith, method-inside laid [] [] _ _ at columns.methodName (omega arith) refl))
 
@@ -43,7 +43,7 @@ same-length c = search needs
 -- src/lib.rt:44:1
 returns : tie.Need-returns
 returns c = λ blob.
-    method-name (c .before .before .before .before .before .before .before .before .before .before .before .pre) _ blob _ _ (method-found (c .before .before .before .before .before .before .before .method-row .ensures _ blob) (c .before .before .before .before .before .i .given .1)) (c .before .before .write-string .ensures)
+    method-name (c .before .before .before .before .before .before .before .before .before .before .before .before .pre) _ blob _ _ (method-found (c .before .before .before .before .before .before .before .method-row .ensures _ blob) (c .before .before .before .before .before .i .given .1)) (c .before .before .write-string .ensures)
 
 -- src/lib.rt:44:1
 same-length-2 : tie.Need-same-length-2
@@ -51,7 +51,7 @@ same-length-2 c = search needs
 
 -- src/lib.rt:44:1
 returns-2 : tie.Need-returns-2
-returns-2 c = λ blob. no-method-name (c .before .before .before .before .before .before .before .before .before .before .pre) _ blob _ _ (method-missed (c .before .before .before .before .before .before .method-row .ensures _ blob) (c .before .before .before .before .enum-told .given .1)) (c .before .before .refuse .ensures)
+returns-2 c = λ blob. no-method-name (c .before .before .before .before .before .before .before .before .before .before .before .pre) _ blob _ _ (method-missed (c .before .before .before .before .before .before .method-row .ensures _ blob) (c .before .before .before .before .enum-told .given .1)) (c .before .before .refuse .ensures)
 
 pub write-method-name-spec : {M : Type 1} → statement M
 write-method-name-spec =

@@ -26,7 +26,7 @@ write-param-type-requires : tie.Need-write-param-type-requires
 write-param-type-requires c κs =
     let at-i = c .before .before in
     let at-method-row = at-i .before .before in
-    let start = at-method-row .before .before .before .before .before in
+    let start = at-method-row .before .before .before .before .before .before in
     let at = method-found (at-method-row .method-row .ensures [] []) (at-i .i .given .1) in
     (start .pre, method-inside (start .pre) [] [] _ _ at columns.methodSignature (omega arith) refl)
 
@@ -48,7 +48,7 @@ returns c =
     let at-write-param-type = c .before .before in
     let at-i = at-write-param-type .before .before .before in
     let at-method-row = at-i .before .before in
-    let start = at-method-row .before .before .before .before .before in
+    let start = at-method-row .before .before .before .before .before .before in
     method-parameter-type (start .pre) _ _ _ _ (method-found (at-method-row .method-row .ensures _ _) (at-i .i .given .1)) _ (at-write-param-type .write-param-type .ensures)
 
 -- src/lib.rt:147:1
@@ -61,7 +61,7 @@ returns-2 c =
     let at-refuse = c .before .before in
     let at-enum-told = at-refuse .before .before in
     let at-method-row = at-enum-told .before .before in
-    let start = at-method-row .before .before .before .before .before in
+    let start = at-method-row .before .before .before .before .before .before in
     no-method-parameter-type (start .pre) _ _ _ _ (method-missed (at-method-row .method-row .ensures _ _) (at-enum-told .enum-told .given .1)) (at-refuse .refuse .ensures) _
 
 pub write-param-type-of-spec : {M : Type 1} → statement M

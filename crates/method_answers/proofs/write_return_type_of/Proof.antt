@@ -26,7 +26,7 @@ write-return-type-requires : tie.Need-write-return-type-requires
 write-return-type-requires c κs =
     let at-i = c .before .before in
     let at-method-row = at-i .before .before in
-    let start = at-method-row .before .before .before .before .before in
+    let start = at-method-row .before .before .before .before .before .before in
     let at = method-found (at-method-row .method-row .ensures [] []) (at-i .i .given .1) in
     (start .pre, method-inside (start .pre) [] [] _ _ at columns.methodSignature (omega arith) refl)
 
@@ -48,7 +48,7 @@ returns c =
     let at-write-return-type = c .before .before in
     let at-i = at-write-return-type .before .before .before in
     let at-method-row = at-i .before .before in
-    let start = at-method-row .before .before .before .before .before in
+    let start = at-method-row .before .before .before .before .before .before in
     method-returns (start .pre) _ _ _ _ (method-found (at-method-row .method-row .ensures _ _) (at-i .i .given .1)) (at-write-return-type .write-return-type .ensures)
 
 -- src/lib.rt:97:1
@@ -61,7 +61,7 @@ returns-2 c =
     let at-refuse = c .before .before in
     let at-enum-told = at-refuse .before .before in
     let at-method-row = at-enum-told .before .before in
-    let start = at-method-row .before .before .before .before .before in
+    let start = at-method-row .before .before .before .before .before .before in
     no-method-returns (start .pre) _ _ _ _ (method-missed (at-method-row .method-row .ensures _ _) (at-enum-told .enum-told .given .1)) (at-refuse .refuse .ensures)
 
 pub write-return-type-of-spec : {M : Type 1} → statement M

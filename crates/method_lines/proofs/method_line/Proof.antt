@@ -45,7 +45,7 @@ same-length-2 c = search needs
 -- src/lib.rt:23:1
 returns : tie.Need-returns
 returns c = λ i. method-goes _ _ _ i (c .before .before .before .before .before .before .before .before .cursor-at .ensures) (c .before .before .before .before .before .before .before .next-class .ensures) (c .before .before .before .before .before .before .cursor-at2 .ensures)
-    (c .before .before .name-step .ensures _ _ (c .before .before .before .before .before .before .before .before .before .before .before .before .before .before .before .before .before .before .pre .1) (c .before .before .before .before .before .before .before .before .before .before .before .write-method-name .ensures _))
+    (c .before .before .name-step .ensures _ _ (c .before .before .before .before .before .before .before .before .before .before .before .before .before .before .before .before .before .before .before .pre .1) (c .before .before .before .before .before .before .before .before .before .before .before .write-method-name .ensures _))
 
 pub method-line-spec : {M : Type 1} → statement M
 method-line-spec =

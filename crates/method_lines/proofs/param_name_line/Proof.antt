@@ -39,7 +39,7 @@ same-length-2 c = search needs
 
 -- src/lib.rt:144:1
 returns : tie.Need-returns
-returns c = param-name-goes _ _ _ _ (c .before .next-number .ensures) (c .cursor-at .ensures) (c .before .before .before .before .push-name .ensures _ _ (c .before .before .before .before .before .before .before .before .before .before .before .before .before .before .before .before .before .pre .1) (c .before .before .before .before .before .before .before .before .before .before .write-param-name-of .ensures))
+returns c = param-name-goes _ _ _ _ (c .before .next-number .ensures) (c .cursor-at .ensures) (c .before .before .before .before .push-name .ensures _ _ (c .before .before .before .before .before .before .before .before .before .before .before .before .before .before .before .before .before .before .pre .1) (c .before .before .before .before .before .before .before .before .before .before .write-param-name-of .ensures))
 
 pub param-name-line-spec : {M : Type 1} → statement M
 param-name-line-spec =

@@ -34,7 +34,7 @@ same-length-2 c = search needs
 
 -- src/lib.rt:95:1
 returns : tie.Need-returns
-returns c = λ i. returns-goes _ _ _ i (c .cursor-at .ensures) (c .before .before .before .push-name .ensures _ _ (c .before .before .before .before .before .before .before .before .before .before .before .before .before .before .before .before .pre .1) (c .before .before .before .before .before .before .before .before .before .write-return-type-of .ensures))
+returns c = λ i. returns-goes _ _ _ i (c .cursor-at .ensures) (c .before .before .before .push-name .ensures _ _ (c .before .before .before .before .before .before .before .before .before .before .before .before .before .before .before .before .before .pre .1) (c .before .before .before .before .before .before .before .before .before .write-return-type-of .ensures))
 
 pub returns-line-spec : {M : Type 1} → statement M
 returns-line-spec =

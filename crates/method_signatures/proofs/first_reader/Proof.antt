@@ -19,13 +19,13 @@ is-marked-requires c κs = search needs
 -- src/lib.rt:126:77
 add-count-below : tie.Need-add-count-below
 add-count-below c =
-    let start = c .before .before .before in
+    let start = c .before .before .before .before in
     record { fits = omega (arith, start .pre .1, rows-narrow (start .pre .0) columns.methodSignature (omega arith)) }
 
 -- src/lib.rt:126:13
 count-below-requires : tie.Need-count-below-requires
 count-below-requires c κs =
-    let start = c .before .before .before in
+    let start = c .before .before .before .before in
     (start .pre .0, (omega arith, marked-ascends (start .pre .0) columns.methodList (omega arith) (c .before .is-marked .ensures) (c .if1 .taken)))
 
 -- src/lib.rt:128:36
@@ -36,7 +36,7 @@ sub-class-at c = search needs
 class-at-requires : tie.Need-class-at-requires
 class-at-requires c κs =
     let counted = c .before in
-    let start = counted .before .before .before .before in
+    let start = counted .before .before .before .before .before in
     (omega (arith, c .if2 .taken), omega (arith, counted .count-below .ensures .within, rows-narrow (start .pre .0) columns.methodList (omega arith)))
 
 -- src/lib.rt:128:13
@@ -44,7 +44,7 @@ returns : tie.Need-returns
 returns c =
     let counted = c .before .before in
     let marked = counted .before in
-    let start = marked .before .before .before in
+    let start = marked .before .before .before .before in
     let s = counted .count-below .ensures in
     let up = marked-ascends (start .pre .0) columns.methodList (omega arith) (marked .before .is-marked .ensures) (marked .if1 .taken) in
     λ strings blob. from-begun (start .pre .0) strings blob up _ s _ (omega (arith, c .before .if2 .taken, ap (λ (k : ClassNumber). k .0) (c .class-at .ensures)))

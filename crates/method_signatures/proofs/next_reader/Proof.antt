@@ -35,7 +35,7 @@ count-rows-requires c κs = search needs
 -- src/lib.rt:0:0
 add-first : tie.Need-add-first Inv-loop μ-loop
 add-first c =
-    let start = c .before .before in
+    let start = c .before .before .before in
     record { fits = omega (arith, start .pre .1, rows-narrow (start .pre .0) columns.methodSignature (omega arith)) }
 
 -- src/lib.rt:0:0
@@ -45,7 +45,7 @@ place-of-requires c κs = search needs
 -- src/lib.rt:0:0
 loop-holds : tie.Need-loop-holds Inv-loop μ-loop
 loop-holds c =
-    let start = c .before .before .before in
+    let start = c .before .before .before .before in
     let a = start .args in
     let at = c .place-of .ensures in
     let one : a .from .0 ≡ placeOf (a .from) - 1 = omega arith in (
@@ -70,7 +70,7 @@ class-at-requires : tie.Need-class-at-requires Inv-loop μ-loop
 class-at-requires c κs =
     let l = c .before .before .loop in
     let counted = c .before .before .before .before in
-    let start = counted .before .before in
+    let start = counted .before .before .before in
     (omega (arith, l .inv .0), omega (arith, c .before .loop-test .taken, counted .count-rows .ensures, rows-narrow (start .pre .0) columns.methodList (omega arith)))
 
 -- src/lib.rt:0:0
@@ -93,7 +93,7 @@ returns c =
     let read = c .before .before .before .before in
     let l = read .before .before .loop in
     let counted = read .before .before .before .before in
-    let start = counted .before .before in
+    let start = counted .before .before .before in
     let low : l .place < rowsAt (start .args .layout .now) columns.methodList = omega (arith, read .before .loop-test .taken, counted .count-rows .ensures) in
     λ strings blob.
     read-met (start .pre .0) strings blob (start .args .m) (start .args .from .0) (l .class) (l .first) (l .place) (l .inv .3 strings blob)
@@ -116,7 +116,7 @@ loop-again c =
     let read = c .before .before .before .before in
     let l = read .before .before .loop in
     let counted = read .before .before .before .before in
-    let start = counted .before .before in
+    let start = counted .before .before .before in
     let low : l .place < rowsAt (start .args .layout .now) columns.methodList = omega (arith, read .before .loop-test .taken, counted .count-rows .ensures) in (
       omega (arith, l .inv .0),
       λ _. omega (arith, l .inv .0),
@@ -135,7 +135,7 @@ loop-again-2 c =
     let read = c .before .before in
     let l = read .before .before .loop in
     let counted = read .before .before .before .before in
-    let start = counted .before .before in
+    let start = counted .before .before .before in
     let low : l .place < rowsAt (start .args .layout .now) columns.methodList = omega (arith, read .before .loop-test .taken, counted .count-rows .ensures) in (
       omega (arith, l .inv .0),
       λ _. omega (arith, l .inv .0),
@@ -148,7 +148,7 @@ loop-again-2 c =
 class-at-requires-2 : tie.Need-class-at-requires-2 Inv-loop μ-loop
 class-at-requires-2 c κs =
     let l = c .before .before .loop in
-    let start = c .before .before .before .before .before .before in
+    let start = c .before .before .before .before .before .before .before in
     (omega (arith, l .inv .0), omega (arith, l .inv .2 (c .if3 .taken), rows-narrow (start .pre .0) columns.methodList (omega arith)))
 
 -- src/lib.rt:0:0
@@ -156,7 +156,7 @@ returns-2 : tie.Need-returns-2 Inv-loop μ-loop
 returns-2 c =
     let l = c .before .before .before .loop in
     let counted = c .before .before .before .before .before in
-    let start = counted .before .before in
+    let start = counted .before .before .before in
     let all : l .place ≡ rowsAt (start .args .layout .now) columns.methodList =
     omega (arith, l .inv .2 (c .before .if3 .taken), c .before .before .loop-test .left, counted .count-rows .ensures) in
     λ strings blob.
@@ -168,7 +168,7 @@ returns-3 : tie.Need-returns-3 Inv-loop μ-loop
 returns-3 c =
     let l = c .before .before .loop in
     let counted = c .before .before .before .before in
-    let start = counted .before .before in
+    let start = counted .before .before .before in
     λ strings blob.
     read-nobody (start .pre .0) strings blob (start .args .m) (start .args .from .0) (l .class) (l .first) (l .place) (l .inv .3 strings blob) (omega (arith, c .if3 .left))
     (omega (arith, c .before .loop-test .left, counted .count-rows .ensures))

@@ -49,7 +49,7 @@ loop-again c =
     let at-parse-sig-type = at-next .before .before .before .before in
     let at-loop-test = at-parse-sig-type .before .before in
     let at-loop = at-loop-test .before in
-    let start = at-loop .before .before .before .before .before .before in
+    let start = at-loop .before .before .before .before .before .before .before in
     let step : start .args .count - at-loop .loop .i ≡ suc (start .args .count - (at-loop .loop .i + 1)) = omega (arith, at-loop-test .loop-test .taken) in
     let t = rendered-done (at-parse-sig-type .parse-sig-type .ensures) (at-next .next .given .1) in
     (omega (arith, at-loop-test .loop-test .taken), t .wrote .keeps .long ∙ at-loop .loop .inv .1, sym (behind-more _ _ step (t .on)) ∙ at-loop .loop .inv .2)
@@ -69,7 +69,7 @@ loop-again-2 c =
     let at-parse-sig-type = at-next2 .before .before .before .before in
     let at-loop-test = at-parse-sig-type .before .before in
     let at-loop = at-loop-test .before in
-    let start = at-loop .before .before .before .before .before .before in
+    let start = at-loop .before .before .before .before .before .before .before in
     let step : start .args .count - at-loop .loop .i ≡ suc (start .args .count - (at-loop .loop .i + 1)) = omega (arith, at-loop-test .loop-test .taken) in
     let t = rendered-failed (at-parse-sig-type .parse-sig-type .ensures) (at-next2 .next2 .given .1) in
     (omega (arith, at-loop-test .loop-test .taken), t .keeps .long ∙ at-loop .loop .inv .1, sym (behind-more _ _ step (t .on)) ∙ at-loop .loop .inv .2)

@@ -40,7 +40,7 @@ returns c strings blob =
     let read = counted .before .before in
     let inside = read .before in
     let marked = inside .before .before in
-    let start = marked .before .before .before in
+    let start = marked .before .before .before .before in
     next-decides (start .pre .0) strings blob (marked-ascends (start .pre .0) columns.methodList (omega arith) (marked .before .is-marked .ensures) (marked .if1 .taken)) (start .args .row)
     (start .pre .1 .0) (omega (arith, inside .if2 .taken, inside .before .count-rows .ensures)) (read .read-column .ensures) (counted .before .if3 .taken) (counted .count-rows2 .ensures) (c .take-from .ensures)
 

@@ -35,7 +35,7 @@ returns c strings blob =
     let read = c .before in
     let left = read .before in
     let widened = left .before in
-    let start = widened .before .before in
+    let start = widened .before .before .before in
     range-is (start .pre .0) strings blob (start .args .row .0) (widened .wide .ensures .0) (start .pre .1 .0) (start .pre .1 .1)
     (read .read-column .ensures) (left .left-after .ensures strings blob) (c .take-from .ensures)
 

@@ -34,7 +34,7 @@ count-rows-requires-2 c κs = search needs
 loop-holds : tie.Need-loop-holds Inv-loop μ-loop
 loop-holds c =
     let counted = c .before in
-    let s = counted .before .before in
+    let s = counted .before .before .before in
     (omega arith, omega arith, λ strings blob. all-left (s .pre .0) strings blob (omega arith) (c .count-rows2 .ensures) (counted .count-rows .ensures))
 
 -- src/lib.rt:44:9
@@ -58,7 +58,7 @@ loop-again : tie.Need-loop-again Inv-loop μ-loop
 loop-again c =
     let read = c .before in
     let turn = read .before .before in
-    let s = turn .before .before .before .before in
+    let s = turn .before .before .before .before .before in
     let l = turn .loop in (
       omega arith,
       omega arith,
@@ -70,7 +70,7 @@ loop-again c =
 returns : tie.Need-returns Inv-loop μ-loop
 returns c strings blob =
     let l = c .before .loop in
-    let same : l .r - 1 ≡ c .before .before .before .before .before .args .row - 1 = omega arith in
+    let same : l .r - 1 ≡ c .before .before .before .before .before .before .args .row - 1 = omega arith in
     l .inv .2 strings blob ∙ ap (leftAfter _) same
 
 pub scan-left-spec : {M : Type 1} → statement M

@@ -26,7 +26,7 @@ returns-2 c = around-other _ _ _ _ (λ e. c .if2 .taken (c .before .before .befo
 -- src/lib.rt:96:9
 read-column-requires-2 : tie.Need-read-column-requires-2
 read-column-requires-2 c κs =
-    let s = c .before .before .before .before .before in
+    let s = c .before .before .before .before .before .before in
     (s .pre .0, (omega arith, omega (arith, same-rows (s .pre .0) columns.nested columns.enclosing (omega arith) (omega arith) refl)))
 
 -- src/lib.rt:98:9

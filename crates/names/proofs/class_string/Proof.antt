@@ -23,7 +23,7 @@ count-rows-requires c κs = search needs
 -- src/lib.rt:52:9
 returns-2 : tie.Need-returns-2
 returns-2 c =
-    let s = c .before .before .before .before .before .before in
+    let s = c .before .before .before .before .before .before .before in
     class-past _ _ _ _ _ (s .pre .0) (s .pre .1 .0) (s .pre .1 .1) (omega arith) (omega arith)
 
 -- src/lib.rt:54:62
@@ -47,14 +47,14 @@ returns-3 : tie.Need-returns-3
 returns-3 c =
     let found = c .before in
     let read = found .before .before in
-    let s = read .before .before .before .before .before .before .before in
+    let s = read .before .before .before .before .before .before .before .before in
     class-found _ _ _ _ _ (s .pre .0) (s .pre .1 .0) (s .pre .1 .1) (omega arith) (omega arith) (read .read-string .ensures) (found .start .given .1)
 
 -- src/lib.rt:36:1
 returns-4 : tie.Need-returns-4
 returns-4 c =
     let read = c .before .before in
-    let s = read .before .before .before .before .before .before .before in
+    let s = read .before .before .before .before .before .before .before .before in
     class-absent _ _ _ _ _ (s .pre .0) (s .pre .1 .0) (s .pre .1 .1) (omega arith) (omega arith) (read .read-string .ensures) (c .enum-told .given .1)
 
 pub class-string-spec : {M : Type 1} → statement M

@@ -33,7 +33,7 @@ least-requires c κs = search needs
 -- src/lib.rt:124:5
 loop-holds : tie.Need-loop-holds Inv-loop μ-loop
 loop-holds c =
-    let start = c .before .before .before .before in
+    let start = c .before .before .before .before .before in
     (start .pre .1, look-start _ _ _ _ (c .before .key-rows .ensures) (start .pre .1) (c .least .ensures))
 
 -- src/lib.rt:125:9

@@ -37,7 +37,7 @@ put-front-requires : tie.Need-put-front-requires
 put-front-requires c κs =
     let put = c .before .before .before .before .before .before in
     let first = placed-from _ (put .put-before .ensures) (c .before .before .p .given .1) in
-    (put .before .before .before .before .before .before .before .pre .0, (first .low, omega (arith, first .place, first .long)))
+    (put .before .before .before .before .before .before .before .before .pre .0, (first .low, omega (arith, first .place, first .long)))
 
 -- src/lib.rt:191:24
 enum-known-q : tie.Need-enum-known-q
@@ -93,7 +93,7 @@ returns-2 c =
     let first = placed-from _ (put .put-before .ensures) (front .before .before .before .p .given .1) in
     let all = behind-then first (placed-from _ (front .put-front .ensures) (c .before .before .before .before .before .q .given .1)) in
     let cutting = put .before .before in
-    front-wrote _ _ _ _ (cut-is _ _ _ _ (cutting .before .before .before .before .before .pre .1) (cutting .cut .ensures) .bytes) (moved-wrote all (c .before .before .move-down .ensures))
+    front-wrote _ _ _ _ (cut-is _ _ _ _ (cutting .before .before .before .before .before .before .pre .1) (cutting .cut .ensures) .bytes) (moved-wrote all (c .before .before .move-down .ensures))
 
 -- src/lib.rt:170:1
 same-length-2 : tie.Need-same-length-2
@@ -107,7 +107,7 @@ returns-3 c =
     let first = placed-from _ (put .put-before .ensures) (front .before .before .before .p .given .1) in
     let none = placed-none _ (placed-then first _ _ (front .put-front .result) (front .put-front .ensures)) (c .enum-told .given .1) in
     let cutting = put .before .before in
-    over-front _ _ _ _ (cut-is _ _ _ _ (cutting .before .before .before .before .before .pre .1) (cutting .cut .ensures) .bytes) (none .0) (none .1)
+    over-front _ _ _ _ (cut-is _ _ _ _ (cutting .before .before .before .before .before .before .pre .1) (cutting .cut .ensures) .bytes) (none .0) (none .1)
 
 -- src/lib.rt:170:1
 same-length-3 : tie.Need-same-length-3
@@ -119,7 +119,7 @@ returns-4 c =
     let put = c .before .before .before .before in
     let none = placed-none _ (put .put-before .ensures) (c .enum-told2 .given .1) in
     let cutting = put .before .before in
-    over-name _ _ _ _ (cut-is _ _ _ _ (cutting .before .before .before .before .before .pre .1) (cutting .cut .ensures) .bytes) (none .0) (none .1)
+    over-name _ _ _ _ (cut-is _ _ _ _ (cutting .before .before .before .before .before .before .pre .1) (cutting .cut .ensures) .bytes) (none .0) (none .1)
 
 pub push-behind-front-spec : {M : Type 1} → statement M
 push-behind-front-spec =

@@ -21,7 +21,7 @@ enum-known-start c = search needs
 push-behind-front-requires : tie.Need-push-behind-front-requires
 push-behind-front-requires c κs =
     let found = c .before .before in
-    (found .before .before .before .before .before .before .pre, shown-at (found .before .before .class-own-name .ensures) (found .start .given .1) .1)
+    (found .before .before .before .before .before .before .before .pre, shown-at (found .before .before .class-own-name .ensures) (found .start .given .1) .1)
 
 -- src/lib.rt:224:26
 enum-told : tie.Need-enum-told
@@ -35,12 +35,12 @@ same-length c = search needs
 returns : tie.Need-returns
 returns c = λ blob.
     let found = c .before .before .before .before .before in
-    said-class (found .before .before .before .before .before .before .pre) _ blob _ _ (shown-at (found .before .before .class-own-name .ensures) (found .start .given .1) .0) (c .before .before .push-behind-front .ensures)
+    said-class (found .before .before .before .before .before .before .before .pre) _ blob _ _ (shown-at (found .before .before .class-own-name .ensures) (found .start .given .1) .0) (c .before .before .push-behind-front .ensures)
 
 -- src/lib.rt:202:1
 returns-2 : tie.Need-returns-2
 returns-2 c = λ blob.
-    said-missing (class-bare (c .before .before .before .before .before .before .pre) _ blob _ (shown-missing (c .before .before .class-own-name .ensures) (c .enum-told .given .1))) (kept-same _ _)
+    said-missing (class-bare (c .before .before .before .before .before .before .before .pre) _ blob _ (shown-missing (c .before .before .class-own-name .ensures) (c .enum-told .given .1))) (kept-same _ _)
 
 pub push-class-name-spec : {M : Type 1} → statement M
 push-class-name-spec =

@@ -21,7 +21,7 @@ use Rattle.rows.specs.Columns as columns
 
 -- src/lib.rt:273:9
 returns : tie.Need-returns
-returns c = λ blob. said-missing (ref-null (c .before .before .before .before .pre) _ blob _ (c .if1 .taken)) (kept-same _ _)
+returns c = λ blob. said-missing (ref-null (c .before .before .before .before .before .pre) _ blob _ (c .if1 .taken)) (kept-same _ _)
 
 -- src/lib.rt:275:8
 count-rows-requires : tie.Need-count-rows-requires
@@ -30,7 +30,7 @@ count-rows-requires c κs = search needs
 -- src/lib.rt:276:9
 returns-2 : tie.Need-returns-2
 returns-2 c = λ blob.
-    said-missing (ref-past (c .before .before .before .before .before .before .pre) _ blob _ (c .before .before .if1 .left) (omega (arith, c .before .count-rows .ensures))) (kept-same _ _)
+    said-missing (ref-past (c .before .before .before .before .before .before .before .pre) _ blob _ (c .before .before .if1 .left) (omega (arith, c .before .count-rows .ensures))) (kept-same _ _)
 
 -- src/lib.rt:278:79
 sub-read-string : tie.Need-sub-read-string
@@ -55,7 +55,7 @@ sub-push-ref-namespace c = search needs
 -- src/lib.rt:281:17
 push-ref-namespace-requires : tie.Need-push-ref-namespace-requires
 push-ref-namespace-requires c κs =
-    let s = c .before .before .before .before .before .before .before .before .before .before .before .before in
+    let s = c .before .before .before .before .before .before .before .before .before .before .before .before .before in
     (s .pre, omega (arith, c .before .before .before .before .before .before .before .count-rows .ensures, same-rows (s .pre) columns.refName columns.refNamespace (omega arith) (omega arith) refl))
 
 -- src/lib.rt:282:17
@@ -83,7 +83,7 @@ returns-3 c = λ blob.
     let found = length .before .before in
     let read = found .before .before in
     let counted = read .before .before in
-    let s = counted .before .before .before .before .before in
+    let s = counted .before .before .before .before .before .before in
     let short = cut-part _ _ _ _ (string-within _ _ (sym (found .start .given .1) ∙ read .read-string .ensures)) (length .name-length .ensures) in
     said-ref (s .pre) _ blob _ (counted .before .if1 .left) (omega (arith, counted .count-rows .ensures)) (read .read-string .ensures) (found .start .given .1)
     (length .name-length .ensures) (space .push-ref-namespace .ensures) (cut-is _ _ _ _ (short .1) (cutting .cut .ensures) .bytes) (c .before .before .push .ensures)
@@ -93,7 +93,7 @@ returns-4 : tie.Need-returns-4
 returns-4 c = λ blob.
     let read = c .before .before in
     let counted = read .before .before in
-    let s = counted .before .before .before .before .before in
+    let s = counted .before .before .before .before .before .before in
     said-missing (ref-bare (s .pre) _ blob _ (counted .before .if1 .left) (omega (arith, counted .count-rows .ensures)) (read .read-string .ensures) (c .enum-told .given .1)) (kept-same _ _)
 
 pub push-ref-name-spec : {M : Type 1} → statement M

@@ -25,7 +25,7 @@ count-rows-requires c κs = search needs
 
 -- src/lib.rt:169:5
 loop-holds : tie.Need-loop-holds Inv-loop μ-loop
-loop-holds c = pass-start _ _ _ _ _ _ _ _ (c .count-rows .ensures) (c .before .before .before .before .pre .1 .0)
+loop-holds c = pass-start _ _ _ _ _ _ _ _ (c .count-rows .ensures) (c .before .before .before .before .before .pre .1 .0)
 
 -- src/lib.rt:170:15
 last-around-requires : tie.Need-last-around-requires Inv-loop μ-loop
@@ -49,7 +49,7 @@ put-dotted-requires c κs =
     let named = c .before .before in
     let in-loop = named .before .before .before .before .before .before .before in
     let s = in-loop .before .loop .inv in
-    (s .behind .low, omega (arith, s .behind .place, s .behind .long), shown-at (named .before .before .class-own-name .ensures) (named .start .given .1) .1)
+    (s .behind .low, omega (arith, s .behind .place, s .behind .long, in-loop .before .before .before .before .before .before .before .pre .1 .1), shown-at (named .before .before .class-own-name .ensures) (named .start .given .1) .1)
 
 -- src/lib.rt:173:32
 enum-known-q : tie.Need-enum-known-q Inv-loop μ-loop

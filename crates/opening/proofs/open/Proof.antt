@@ -23,17 +23,24 @@ enum-told c = search needs
 
 -- src/lib.rt:112:13
 lay-requires : tie.Need-lay-requires
-lay-requires c κs = ((rw (c .before .before .before .before .before .read-header .ensures) (first-within _ _), search needs), c .before .before .before .before .before .before .before .pre)
+lay-requires c κs = ((rw (c .before .before .before .before .before .read-header .ensures) (first-within _ _), search needs), c .before .before .before .before .before .before .before .before .pre)
 
 -- src/lib.rt:101:1
 returns : tie.Need-returns
-returns c = is-refused (c .before .before .before .read-header .ensures) (c .before .answer .given .1) (refl, c .before .before .before .before .before .pre)
+returns c = is-refused (c .before .before .before .read-header .ensures) (c .before .answer .given .1) (refl, c .before .before .before .before .before .before .pre)
+
+-- src/lib.rt:101:1
+same-length : tie.Need-same-length
+same-length c = search needs
 
 -- src/lib.rt:101:1
 returns-2 : tie.Need-returns-2
-returns-2 c = is-ready (c .before .before .before .before .before .before .read-header .ensures) (c .before .before .before .before .enum-told .given .1) (c .lay .ensures .0) (c .lay .ensures .1)
+returns-2 c =
+    let laid = c .before .before in
+    let told = laid .before .before .before .before in
+    is-ready (told .before .before .read-header .ensures) (told .enum-told .given .1) (laid .lay .ensures .0) (laid .lay .ensures .1)
 
 pub open-spec : {M : Type 1} → statement M
 open-spec =
     tie.close
-    (tie.spec read-header-requires enum-known-answer enum-told lay-requires returns returns-2)
+    (tie.spec read-header-requires enum-known-answer enum-told lay-requires returns same-length returns-2)

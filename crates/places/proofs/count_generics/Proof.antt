@@ -13,7 +13,7 @@ count-key-requires c κs = search needs
 
 -- src/lib.rt:78:1
 returns : tie.Need-returns
-returns c = λ strings blob. c .count-key .ensures ∙ sym (generics-count (c .before .before .pre) strings blob _)
+returns c = λ strings blob. c .count-key .ensures ∙ sym (generics-count (c .before .before .before .pre) strings blob _)
 
 pub count-generics-spec : {M : Type 1} → statement M
 count-generics-spec = tie.close (tie.spec count-key-requires returns)

@@ -7,94 +7,125 @@ use Rattle.rows.proofs.read_column.Tie as tie
 use Rattle.rows.proofs.read_column.Reads as reads
 use Rattle.rows.proofs.read_column.Lts as lts
 use Rattle.numbers.proofs.read_word.Reads as read-word-reads
+use Rattle.numbers.proofs.wide.Reads as wide-reads
 
--- src/lib.rt:30:24
-mul-first : tie.Need-mul-first
-mul-first c = search needs
+mul-at : tie.Need-mul-at
+mul-at c = search needs
 
--- src/lib.rt:30:17
-mul-first-2 : tie.Need-mul-first-2
-mul-first-2 c = search needs
+mul-wide : tie.Need-mul-wide
+mul-wide c = search needs
 
--- src/lib.rt:30:17
-element-copy-out-first : tie.Need-element-copy-out-first
-element-copy-out-first c = search needs
+shared-slice-read-wide : tie.Need-shared-slice-read-wide
+shared-slice-read-wide c = search needs
 
--- src/lib.rt:31:23
-mul-step : tie.Need-mul-step
-mul-step c = search needs
+wide-requires : tie.Need-wide-requires
+wide-requires c κs = search needs
 
--- src/lib.rt:31:23
-add-step : tie.Need-add-step
-add-step c = search needs
+add-wide : tie.Need-add-wide
+add-wide c = search needs
 
--- src/lib.rt:31:16
-mul-step-2 : tie.Need-mul-step-2
-mul-step-2 c = search needs
+mul-wide-2 : tie.Need-mul-wide-2
+mul-wide-2 c = search needs
 
--- src/lib.rt:31:16
-element-copy-out-step : tie.Need-element-copy-out-step
-element-copy-out-step c = search needs
+shared-slice-read-wide-2 : tie.Need-shared-slice-read-wide-2
+shared-slice-read-wide-2 c = search needs
 
--- src/lib.rt:32:24
-mul-width : tie.Need-mul-width
-mul-width c = search needs
+wide-requires-2 : tie.Need-wide-requires-2
+wide-requires-2 c κs = search needs
 
--- src/lib.rt:32:24
-add-width : tie.Need-add-width
-add-width c = search needs
+add-wide-2 : tie.Need-add-wide-2
+add-wide-2 c = search needs
 
--- src/lib.rt:32:17
-mul-width-2 : tie.Need-mul-width-2
-mul-width-2 c = search needs
+mul-wide-3 : tie.Need-mul-wide-3
+mul-wide-3 c = search needs
 
--- src/lib.rt:32:17
-element-copy-out-width : tie.Need-element-copy-out-width
-element-copy-out-width c = search needs
+shared-slice-read-wide-3 : tie.Need-shared-slice-read-wide-3
+shared-slice-read-wide-3 c = search needs
 
--- src/lib.rt:33:40
+wide-requires-3 : tie.Need-wide-requires-3
+wide-requires-3 c κs = search needs
+
+add-wide-3 : tie.Need-add-wide-3
+add-wide-3 c = search needs
+
+mul-wide-4 : tie.Need-mul-wide-4
+mul-wide-4 c = search needs
+
+shared-slice-read-wide-4 : tie.Need-shared-slice-read-wide-4
+shared-slice-read-wide-4 c = search needs
+
+wide-requires-4 : tie.Need-wide-requires-4
+wide-requires-4 c κs = search needs
+
 mul-read-word : tie.Need-mul-read-word
-mul-read-word c =
-    let s = c .before .before .before .before in
-    let r = column-reads (s .pre .0) _ _ (s .pre .1 .0) (s .pre .1 .1) in
+mul-read-word c = search needs
+
+add-read-word : tie.Need-add-read-word
+add-read-word c = search needs
+
+mul-read-word-2 : tie.Need-mul-read-word-2
+mul-read-word-2 c =
+    let d = c in
+    let b = d .before .before in
+    let a = b .before .before in
+    let z = a .before .before in
+    let s = z .before .before .before .before in
+    let r = column-reads (s .pre .0) _ _ (s .pre .1 .0) (s .pre .1 .1) (z .wide .ensures .0) (a .wide2 .ensures .0) (b .wide3 .ensures .0) (d .wide4 .ensures .0) in
     record { fits = omega (arith, r .small) }
 
--- src/lib.rt:33:32
-add-read-word : tie.Need-add-read-word
-add-read-word c =
-    let s = c .before .before .before .before in
-    let r = column-reads (s .pre .0) _ _ (s .pre .1 .0) (s .pre .1 .1) in
+add-read-word-2 : tie.Need-add-read-word-2
+add-read-word-2 c =
+    let d = c in
+    let b = d .before .before in
+    let a = b .before .before in
+    let z = a .before .before in
+    let s = z .before .before .before .before in
+    let r = column-reads (s .pre .0) _ _ (s .pre .1 .0) (s .pre .1 .1) (z .wide .ensures .0) (a .wide2 .ensures .0) (b .wide3 .ensures .0) (d .wide4 .ensures .0) in
     record { fits = omega (arith, r .within) }
 
--- src/lib.rt:33:5
 read-word-requires : tie.Need-read-word-requires
 read-word-requires c κs =
-    let s = c .before .before .before .before in
-    let r = column-reads (s .pre .0) _ _ (s .pre .1 .0) (s .pre .1 .1) in
+    let d = c in
+    let b = d .before .before in
+    let a = b .before .before in
+    let z = a .before .before in
+    let s = z .before .before .before .before in
+    let r = column-reads (s .pre .0) _ _ (s .pre .1 .0) (s .pre .1 .1) (z .wide .ensures .0) (a .wide2 .ensures .0) (b .wide3 .ensures .0) (d .wide4 .ensures .0) in
     (r .narrow, r .within)
 
--- src/lib.rt:25:1
 returns : tie.Need-returns
 returns c =
-    let s = c .before .before .before .before .before in
-    c .read-word .ensures ∙ column-reads (s .pre .0) _ _ (s .pre .1 .0) (s .pre .1 .1) .is
+    let d = c .before in
+    let b = d .before .before in
+    let a = b .before .before in
+    let z = a .before .before in
+    let s = z .before .before .before .before in
+    let r = column-reads (s .pre .0) _ _ (s .pre .1 .0) (s .pre .1 .1) (z .wide .ensures .0) (a .wide2 .ensures .0) (b .wide3 .ensures .0) (d .wide4 .ensures .0) in
+    c .read-word .ensures ∙ r .is
 
 pub read-column-spec : {M : Type 1} → statement M
 read-column-spec =
     tie.close
     (tie.spec
-    mul-first
-    mul-first-2
-    element-copy-out-first
-    mul-step
-    add-step
-    mul-step-2
-    element-copy-out-step
-    mul-width
-    add-width
-    mul-width-2
-    element-copy-out-width
+    mul-at
+    mul-wide
+    shared-slice-read-wide
+    wide-requires
+    add-wide
+    mul-wide-2
+    shared-slice-read-wide-2
+    wide-requires-2
+    add-wide-2
+    mul-wide-3
+    shared-slice-read-wide-3
+    wide-requires-3
+    add-wide-3
+    mul-wide-4
+    shared-slice-read-wide-4
+    wide-requires-4
     mul-read-word
     add-read-word
+    mul-read-word-2
+    add-read-word-2
     read-word-requires
     returns)

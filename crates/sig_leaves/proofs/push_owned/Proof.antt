@@ -24,7 +24,7 @@ push-string-requires : tie.Need-push-string-requires
 push-string-requires c κs =
     let found = c .before .before in
     let find = found .before .before in
-    let s = find .before .before .before .before in
+    let s = find .before .before .before .before .before in
     (s .pre, (omega arith, generics-found (s .pre) [] [] _ _ _ (find .find-key .ensures) (found .row .given .1) .0))
 
 -- src/lib.rt:144:23
@@ -41,13 +41,13 @@ returns c = λ blob.
     let pushed = c .before .before in
     let found = pushed .before .before .before in
     let find = found .before .before in
-    said-owned (find .before .before .before .before .pre) _ blob _ _ (find .find-key .ensures) (found .row .given .1) (pushed .push-string .ensures)
+    said-owned (find .before .before .before .before .before .pre) _ blob _ _ (find .find-key .ensures) (found .row .given .1) (pushed .push-string .ensures)
 
 -- src/lib.rt:130:1
 returns-2 : tie.Need-returns-2
 returns-2 c = λ blob.
     let find = c .before .before in
-    said-unowned (find .before .before .before .before .pre) _ blob _ _ (find .find-key .ensures) (c .enum-told .given .1) (kept-same _ _)
+    said-unowned (find .before .before .before .before .before .pre) _ blob _ _ (find .find-key .ensures) (c .enum-told .given .1) (kept-same _ _)
 
 pub push-owned-spec : {M : Type 1} → statement M
 push-owned-spec =

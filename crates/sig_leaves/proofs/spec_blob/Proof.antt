@@ -11,7 +11,7 @@ use Rattle.rows.proofs.read_column.Reads as read-column-reads
 
 -- src/lib.rt:199:9
 returns : tie.Need-returns
-returns c = λ strings. spec-null (c .before .before .before .pre) strings _ _ (c .if1 .taken)
+returns c = λ strings. spec-null (c .before .before .before .before .pre) strings _ _ (c .if1 .taken)
 
 -- src/lib.rt:201:8
 count-rows-requires : tie.Need-count-rows-requires
@@ -19,7 +19,7 @@ count-rows-requires c κs = search needs
 
 -- src/lib.rt:202:9
 returns-2 : tie.Need-returns-2
-returns-2 c = λ strings. spec-past (c .before .before .before .before .before .pre) strings _ _ (c .before .before .if1 .left) (omega (arith, c .before .count-rows .ensures))
+returns-2 c = λ strings. spec-past (c .before .before .before .before .before .before .pre) strings _ _ (c .before .before .if1 .left) (omega (arith, c .before .count-rows .ensures))
 
 -- src/lib.rt:204:76
 sub-read-column : tie.Need-sub-read-column
@@ -51,7 +51,7 @@ returns-3 c = λ strings.
     let looked = c .before .before .before in
     let read = looked .before in
     let counted = read .before .before in
-    spec-found (counted .before .before .before .before .pre) strings _ _ (counted .before .if1 .left) (omega (arith, counted .count-rows .ensures)) (read .read-column .ensures)
+    spec-found (counted .before .before .before .before .before .pre) strings _ _ (counted .before .if1 .left) (omega (arith, counted .count-rows .ensures)) (read .read-column .ensures)
     (looked .get-blob .ensures) (c .before .start .given .1)
 
 -- src/lib.rt:193:1
@@ -60,7 +60,7 @@ returns-4 c = λ strings.
     let looked = c .before .before in
     let read = looked .before in
     let counted = read .before .before in
-    spec-absent (counted .before .before .before .before .pre) strings _ _ (counted .before .if1 .left) (omega (arith, counted .count-rows .ensures)) (read .read-column .ensures)
+    spec-absent (counted .before .before .before .before .before .pre) strings _ _ (counted .before .if1 .left) (omega (arith, counted .count-rows .ensures)) (read .read-column .ensures)
     (looked .get-blob .ensures) (c .enum-told .given .1)
 
 pub spec-blob-spec : {M : Type 1} → statement M

@@ -16,7 +16,7 @@ sig-around-push-before-requires t c κs = search needs
 -- src/lib.rt:559:11
 pub sig-around-sig-type-requires : (t : ℕ) → sig-around-lts.Need-sig-type-requires (known-sig-around t) (sig-around-at t) sig-around.Post
 sig-around-sig-type-requires t c κs =
-    let start = c .before .before .before .before .before .before .before .before .before .before in
+    let start = c .before .before .before .before .before .before .before .before .before .before .before in
     (omega (arith, start .pre .0), start .pre .1)
 
 -- src/lib.rt:571:25
@@ -42,7 +42,7 @@ sig-around-returns t c =
     let at-end = at-push-behind .before .before .before in
     let at-sig-type = at-end .before .before .before .before in
     let at-push-before = at-sig-type .before .before .before .before in
-    let start = at-push-before .before .before .before .before .before .before .before in
+    let start = at-push-before .before .before .before .before .before .before .before .before in
     let a = start .args in
     let e = envOf (a .tables .now) (a .layout .now) (a .strings .now) (a .blob .now) (a .owners .now) in
     let T = type e (a .left) in
@@ -59,7 +59,7 @@ sig-around-returns-2 t c =
     let at-next = c .before in
     let at-sig-type = at-next .before .before .before .before in
     let at-push-before = at-sig-type .before .before .before .before in
-    let start = at-push-before .before .before .before .before .before .before .before in
+    let start = at-push-before .before .before .before .before .before .before .before .before in
     let a = start .args in
     let e = envOf (a .tables .now) (a .layout .now) (a .strings .now) (a .blob .now) (a .owners .now) in
     let T = type e (a .left) in

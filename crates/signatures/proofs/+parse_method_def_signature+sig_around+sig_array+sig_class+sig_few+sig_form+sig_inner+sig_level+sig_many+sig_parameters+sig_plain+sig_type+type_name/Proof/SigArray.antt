@@ -12,7 +12,7 @@ use Rattle.signatures.proofs.+parse_method_def_signature+sig_around+sig
 -- src/lib.rt:663:11
 pub sig-array-sig-type-requires : (t : ℕ) → sig-array-lts.Need-sig-type-requires (known-sig-array t) (sig-array-at t) sig-array.Post
 sig-array-sig-type-requires t c κs =
-    let start = c .before .before .before .before .before .before in
+    let start = c .before .before .before .before .before .before .before in
     (omega (arith, start .pre .0), start .pre .1)
 
 -- src/lib.rt:675:25
@@ -36,7 +36,7 @@ pub sig-array-returns : (t : ℕ) → sig-array-lts.Need-returns (known-sig-arra
 sig-array-returns t c =
     let at-end = c .before .before .before .before .before in
     let at-sig-type = at-end .before .before .before .before in
-    let start = at-sig-type .before .before .before .before .before .before .before in
+    let start = at-sig-type .before .before .before .before .before .before .before .before in
     let a = start .args in
     let e = envOf (a .tables .now) (a .layout .now) (a .strings .now) (a .blob .now) (a .owners .now) in
     let T = type e (a .left) in
@@ -51,7 +51,7 @@ sig-array-same-length-2 t c = search needs
 pub sig-array-returns-2 : (t : ℕ) → sig-array-lts.Need-returns-2 (known-sig-array t) (sig-array-at t) sig-array.Post
 sig-array-returns-2 t c =
     let at-sig-type = c .before .before .before .before .before in
-    let start = at-sig-type .before .before .before .before .before .before .before in
+    let start = at-sig-type .before .before .before .before .before .before .before .before in
     let a = start .args in
     let e = envOf (a .tables .now) (a .layout .now) (a .strings .now) (a .blob .now) (a .owners .now) in
     let T = type e (a .left) in

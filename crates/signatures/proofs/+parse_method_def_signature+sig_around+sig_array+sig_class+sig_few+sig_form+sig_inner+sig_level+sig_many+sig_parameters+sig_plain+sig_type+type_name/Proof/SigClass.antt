@@ -22,7 +22,7 @@ sig-class-enum-known-index t c = search needs
 -- src/lib.rt:594:19
 pub sig-class-type-name-requires : (t : ℕ) → sig-class-lts.Need-type-name-requires (known-sig-class t) (sig-class-at t) sig-class.Post
 sig-class-type-name-requires t c κs =
-    let start = c .before .before .before .before .before .before .before .before .before .before in
+    let start = c .before .before .before .before .before .before .before .before .before .before .before in
     (omega (arith, start .pre .0, start .good .1 .1 .1 .1 .0 .1), start .pre .1)
 
 -- src/lib.rt:595:29
@@ -46,7 +46,7 @@ pub sig-class-returns : (t : ℕ) → sig-class-lts.Need-returns (known-sig-clas
 sig-class-returns t c =
     let at-type-name = c .before .before .before .before .before in
     let at-index = at-type-name .before .before .before in
-    let start = at-index .before .before .before .before .before .before .before .before in
+    let start = at-index .before .before .before .before .before .before .before .before .before in
     let a = start .args in
     let e = envOf (a .tables .now) (a .layout .now) (a .strings .now) (a .blob .now) (a .owners .now) in
     let T = type e (a .left) in
@@ -62,7 +62,7 @@ pub sig-class-returns-2 : (t : ℕ) → sig-class-lts.Need-returns-2 (known-sig-
 sig-class-returns-2 t c =
     let at-type-name = c .before .before .before .before in
     let at-index = at-type-name .before .before .before in
-    let start = at-index .before .before .before .before .before .before .before .before in
+    let start = at-index .before .before .before .before .before .before .before .before .before in
     let a = start .args in
     let e = envOf (a .tables .now) (a .layout .now) (a .strings .now) (a .blob .now) (a .owners .now) in
     let T = type e (a .left) in
@@ -73,7 +73,7 @@ sig-class-returns-2 t c =
 pub sig-class-returns-3 : (t : ℕ) → sig-class-lts.Need-returns-3 (known-sig-class t) (sig-class-at t) sig-class.Post
 sig-class-returns-3 t c =
     let at-read-uint = c .before .before .before in
-    let start = at-read-uint .before .before .before .before .before .before in
+    let start = at-read-uint .before .before .before .before .before .before .before in
     let a = start .args in
     let e = envOf (a .tables .now) (a .layout .now) (a .strings .now) (a .blob .now) (a .owners .now) in
     let T = type e (a .left) in

@@ -12,7 +12,7 @@ sig-few-slice-aggregate-sig-level t c = search needs
 -- src/lib.rt:306:5
 pub sig-few-sig-level-requires : (t : ℕ) → sig-few-lts.Need-sig-level-requires (known-sig-few t) (sig-few-at t) sig-few.Post
 sig-few-sig-level-requires t c κs =
-    let start = c .before .before .before .before .before .before .before in
+    let start = c .before .before .before .before .before .before .before .before in
     (omega (arith, start .pre .0), (start .pre .1 .0, (start .pre .1 .1 .0, start .pre .1 .1 .1, omega arith)))
 
 -- src/lib.rt:289:1

@@ -30,28 +30,28 @@ sig-form-sig-var-requires t c κs = search needs
 -- src/lib.rt:455:17
 pub sig-form-sig-array-requires : (t : ℕ) → sig-form-lts.Need-sig-array-requires (known-sig-form t) (sig-form-at t) sig-form.Post
 sig-form-sig-array-requires t c κs =
-    let start = c .before .before .before .before .before .before .before .before in
+    let start = c .before .before .before .before .before .before .before .before .before in
     let r = start .pre .1 .1 in
     (omega (arith, start .pre .0, r .0, r .2), start .pre .1 .0)
 
 -- src/lib.rt:456:17
 pub sig-form-parse-method-def-signature-requires : (t : ℕ) → sig-form-lts.Need-parse-method-def-signature-requires (known-sig-form t) (sig-form-at t) sig-form.Post
 sig-form-parse-method-def-signature-requires t c κs =
-    let start = c .before .before .before .before .before .before .before .before in
+    let start = c .before .before .before .before .before .before .before .before .before in
     let r = start .pre .1 .1 in
     (omega (arith, start .pre .0, r .0, r .2), start .pre .1 .0)
 
 -- src/lib.rt:440:24
 pub sig-form-sig-around-requires : (t : ℕ) → sig-form-lts.Need-sig-around-requires (known-sig-form t) (sig-form-at t) sig-form.Post
 sig-form-sig-around-requires t c κs =
-    let start = c .before .before .before .before .before .before .before .before .before .before in
+    let start = c .before .before .before .before .before .before .before .before .before .before .before in
     let r = start .pre .1 .1 in
     (omega (arith, start .pre .0, r .0, r .2), start .pre .1 .0)
 
 -- src/lib.rt:453:24
 pub sig-form-sig-class-requires : (t : ℕ) → sig-form-lts.Need-sig-class-requires (known-sig-form t) (sig-form-at t) sig-form.Post
 sig-form-sig-class-requires t c κs =
-    let start = c .before .before .before .before .before .before .before .before .before .before .before in
+    let start = c .before .before .before .before .before .before .before .before .before .before .before .before in
     let r = start .pre .1 .1 in
     (omega (arith, start .pre .0, r .0, r .2), start .pre .1 .0)
 
@@ -68,7 +68,7 @@ pub sig-form-returns : (t : ℕ) → sig-form-lts.Need-returns (known-sig-form t
 sig-form-returns t c =
     let at-sig-var = c .before .before in
     let at-match = at-sig-var .before .before in
-    let start = at-match .before .before .before .before .before .before .before in
+    let start = at-match .before .before .before .before .before .before .before .before in
     let a = start .args in
     let e = envOf (a .tables .now) (a .layout .now) (a .strings .now) (a .blob .now) (a .owners .now) in
     let r = start .pre .1 .1 in
@@ -84,7 +84,7 @@ unfolding form look
 sig-form-returns-2 t c =
     let at-sig-array = c .before .before in
     let at-match = at-sig-array .before .before in
-    let start = at-match .before .before .before .before .before .before .before in
+    let start = at-match .before .before .before .before .before .before .before .before in
     let a = start .args in
     let e = envOf (a .tables .now) (a .layout .now) (a .strings .now) (a .blob .now) (a .owners .now) in
     let r = start .pre .1 .1 in
@@ -100,7 +100,7 @@ unfolding form look
 sig-form-returns-3 t c =
     let at-parse-method-def-signature = c .before .before in
     let at-match = at-parse-method-def-signature .before .before in
-    let start = at-match .before .before .before .before .before .before .before in
+    let start = at-match .before .before .before .before .before .before .before .before in
     let a = start .args in
     let e = envOf (a .tables .now) (a .layout .now) (a .strings .now) (a .blob .now) (a .owners .now) in
     let r = start .pre .1 .1 in
@@ -116,7 +116,7 @@ sig-form-returns-4 t c =
     let at-sig-around = c .before .before in
     let at-if2 = at-sig-around .before .before in
     let at-if1 = at-if2 .before in
-    let start = at-if1 .before .before .before .before .before .before .before .before in
+    let start = at-if1 .before .before .before .before .before .before .before .before .before in
     let a = start .args in
     let e = envOf (a .tables .now) (a .layout .now) (a .strings .now) (a .blob .now) (a .owners .now) in
     let r = start .pre .1 .1 in
@@ -132,7 +132,7 @@ sig-form-returns-5 t c =
     let at-sig-class = c .before .before in
     let at-if3 = at-sig-class .before .before in
     let at-if2 = at-if3 .before in
-    let start = at-if2 .before .before .before .before .before .before .before .before .before in
+    let start = at-if2 .before .before .before .before .before .before .before .before .before .before in
     let a = start .args in
     let e = envOf (a .tables .now) (a .layout .now) (a .strings .now) (a .blob .now) (a .owners .now) in
     let r = start .pre .1 .1 in
@@ -148,7 +148,7 @@ sig-form-returns-6 t c =
     let at-sig-simple = c .before .before in
     let at-if1 = at-sig-simple .before .before in
     let at-match = at-if1 .before in
-    let start = at-match .before .before .before .before .before .before .before in
+    let start = at-match .before .before .before .before .before .before .before .before in
     let a = start .args in
     let e = envOf (a .tables .now) (a .layout .now) (a .strings .now) (a .blob .now) (a .owners .now) in
     let r = start .pre .1 .1 in

@@ -8,7 +8,7 @@ use Rattle.signatures.proofs.+parse_method_def_signature+sig_around+sig
 -- src/lib.rt:261:9
 pub sig-inner-sig-many-requires : (t : ℕ) → sig-inner-lts.Need-sig-many-requires (known-sig-inner t) (sig-inner-at t) sig-inner.Post
 sig-inner-sig-many-requires t c κs =
-    let start = c .before .before .before .before .before .before .before in
+    let start = c .before .before .before .before .before .before .before .before in
     (omega (arith, start .pre .0), (start .pre .1 .0, (start .pre .1 .1 .0, start .pre .1 .1 .1 (c .before .if1 .taken))))
 
 -- src/lib.rt:261:9
@@ -22,7 +22,7 @@ sig-inner-returns t c = c .before .before .sig-many .ensures
 -- src/lib.rt:274:5
 pub sig-inner-sig-type-requires : (t : ℕ) → sig-inner-lts.Need-sig-type-requires (known-sig-inner t) (sig-inner-at t) sig-inner.Post
 sig-inner-sig-type-requires t c κs =
-    let start = c .before .before .before .before .before .before .before in
+    let start = c .before .before .before .before .before .before .before .before in
     (omega (arith, start .pre .0), start .pre .1 .0)
 
 -- src/lib.rt:243:1

@@ -12,7 +12,7 @@ sig-many-slice-aggregate-sig-level t c = search needs
 -- src/lib.rt:339:5
 pub sig-many-sig-level-requires : (t : ℕ) → sig-many-lts.Need-sig-level-requires (known-sig-many t) (sig-many-at t) sig-many.Post
 sig-many-sig-level-requires t c κs =
-    let start = c .before .before .before .before .before .before .before in
+    let start = c .before .before .before .before .before .before .before .before in
     (omega (arith, start .pre .0), (start .pre .1 .0, (start .pre .1 .1 .0, start .pre .1 .1 .1, omega arith)))
 
 -- src/lib.rt:322:1

@@ -32,7 +32,7 @@ sig-parameters-μ-loop buf₀ at tables strings blob layout owners sig pos left 
 -- src/lib.rt:762:5
 pub sig-parameters-loop-holds : (t : ℕ) → sig-parameters-lts.Need-loop-holds (known-sig-parameters t) (sig-parameters-at t) sig-parameters.Post sig-parameters-Inv-loop sig-parameters-μ-loop
 sig-parameters-loop-holds t c =
-    let start = c .before .before .before .before .before in
+    let start = c .before .before .before .before .before .before in
     (omega arith, le-refl _, start .pre .1 .1, refl, λ b′ r h. rw sub-zero at h)
 
 -- src/lib.rt:763:41
@@ -51,7 +51,7 @@ sig-parameters-add-i t c = search needs
 pub sig-parameters-sig-type-requires : (t : ℕ) → sig-parameters-lts.Need-sig-type-requires (known-sig-parameters t) (sig-parameters-at t) sig-parameters.Post sig-parameters-Inv-loop sig-parameters-μ-loop
 sig-parameters-sig-type-requires t c κs =
     let at-loop = c .before .before .before .before .before .before .before in
-    let start = at-loop .before .before .before .before .before .before in
+    let start = at-loop .before .before .before .before .before .before .before in
     (omega (arith, start .pre .0, at-loop .loop .inv .1), start .pre .1 .0)
 
 -- src/lib.rt:777:29
@@ -68,7 +68,7 @@ sig-parameters-loop-again t c =
     let at-sig-type = c .before .before .before .before .before in
     let at-push-sep = at-sig-type .before .before .before .before in
     let at-loop-test = at-push-sep .before .before .before in
-    let start = at-loop-test .before .before .before .before .before .before .before in
+    let start = at-loop-test .before .before .before .before .before .before .before .before in
     let a = start .args in
     let e = envOf (a .tables .now) (a .layout .now) (a .strings .now) (a .blob .now) (a .owners .now) in
     let T = type e (a .left) in
@@ -93,7 +93,7 @@ sig-parameters-loop-again-2 t c =
     let at-sig-type = c .before .before .before .before .before in
     let at-push-sep = at-sig-type .before .before .before .before in
     let at-loop-test = at-push-sep .before .before .before in
-    let start = at-loop-test .before .before .before .before .before .before .before in
+    let start = at-loop-test .before .before .before .before .before .before .before .before in
     let a = start .args in
     let e = envOf (a .tables .now) (a .layout .now) (a .strings .now) (a .blob .now) (a .owners .now) in
     let T = type e (a .left) in
@@ -112,7 +112,7 @@ sig-parameters-same-length t c = search needs
 -- src/lib.rt:741:1
 pub sig-parameters-returns : (t : ℕ) → sig-parameters-lts.Need-returns (known-sig-parameters t) (sig-parameters-at t) sig-parameters.Post sig-parameters-Inv-loop sig-parameters-μ-loop
 sig-parameters-returns t c =
-    let start = c .before .before .before .before .before .before .before in
+    let start = c .before .before .before .before .before .before .before .before in
     let a = start .args in
     let e = envOf (a .tables .now) (a .layout .now) (a .strings .now) (a .blob .now) (a .owners .now) in
     let T = type e (a .left) in

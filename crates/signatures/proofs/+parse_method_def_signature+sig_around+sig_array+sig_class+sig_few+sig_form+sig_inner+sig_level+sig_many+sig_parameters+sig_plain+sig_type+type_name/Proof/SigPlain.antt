@@ -10,7 +10,7 @@ use Rattle.signatures.proofs.+parse_method_def_signature+sig_around+sig
 -- src/lib.rt:212:9
 pub sig-plain-returns : (t : ℕ) → sig-plain-lts.Need-returns (known-sig-plain t) (sig-plain-at t) sig-plain.Post
 sig-plain-returns t c =
-    let start = c .before .before .before .before .before .before in
+    let start = c .before .before .before .before .before .before .before in
     let a = start .args in
     let e = envOf (a .tables .now) (a .layout .now) (a .strings .now) (a .blob .now) (a .owners .now) in
     forms.type-past e (a .left) (a .sig .now) (a .pos) (c .if1 .taken)
@@ -22,7 +22,7 @@ sig-plain-shared-slice-read-if2 t c = search needs
 -- src/lib.rt:215:9
 pub sig-plain-sig-few-requires : (t : ℕ) → sig-plain-lts.Need-sig-few-requires (known-sig-plain t) (sig-plain-at t) sig-plain.Post
 sig-plain-sig-few-requires t c κs =
-    let start = c .before .before .before .before .before .before .before .before .before in
+    let start = c .before .before .before .before .before .before .before .before .before .before in
     let is = c .before .if2 .taken in
     let lt = c .before .before .before .if1 .left in
     (omega (arith, start .pre .0), (start .pre .1 .0, (start .pre .1 .1 .0, λ o. o .no-generic (omega (arith, lt)) is)))
@@ -40,7 +40,7 @@ pub sig-plain-sig-form-requires : (t : ℕ) → sig-plain-lts.Need-sig-form-requ
 sig-plain-sig-form-requires t c κs =
     let at-if2 = c .before in
     let at-if1 = at-if2 .before .before in
-    let start = at-if1 .before .before .before .before .before .before in
+    let start = at-if1 .before .before .before .before .before .before .before in
     (omega (arith, start .pre .0, at-if1 .if1 .left), (start .pre .1 .0, (start .pre .1 .1 .0, start .pre .1 .1 .1, omega (arith, at-if1 .if1 .left), at-if2 .if2 .left)))
 
 -- src/lib.rt:195:1

@@ -13,7 +13,7 @@ use Rattle.signatures.proofs.+parse_method_def_signature+sig_around+sig
 -- src/lib.rt:164:9
 pub sig-type-returns : (t : ℕ) → sig-type-lts.Need-returns (known-sig-type t) (sig-type-at t) sig-type.Post
 sig-type-returns t c =
-    let start = c .before .before .before .before .before .before in
+    let start = c .before .before .before .before .before .before .before in
     let a = start .args in
     let e = envOf (a .tables .now) (a .layout .now) (a .strings .now) (a .blob .now) (a .owners .now) in
     forms.type-past e (a .left) (a .sig .now) (a .pos) (c .if1 .taken)
@@ -25,7 +25,7 @@ sig-type-add-t19 t c = search needs
 -- src/lib.rt:167:9
 pub sig-type-returns-2 : (t : ℕ) → sig-type-lts.Need-returns-2 (known-sig-type t) (sig-type-at t) sig-type.Post
 sig-type-returns-2 t c =
-    let start = c .before .before .before .before .before .before .before in
+    let start = c .before .before .before .before .before .before .before .before in
     let a = start .args in
     let e = envOf (a .tables .now) (a .layout .now) (a .strings .now) (a .blob .now) (a .owners .now) in
     forms.type-deep e (a .left) (a .sig .now) (a .pos) (c .if2 .taken) (omega (arith, c .before .if1 .left))
@@ -42,7 +42,7 @@ sig-type-enum-known-count t c = search needs
 pub sig-type-sig-plain-requires : (t : ℕ) → sig-type-lts.Need-sig-plain-requires (known-sig-type t) (sig-type-at t) sig-type.Post
 sig-type-sig-plain-requires t c κs =
     let at-skip-run = c .before .before .before .before in
-    let start = at-skip-run .before .before .before .before .before .before .before .before in
+    let start = at-skip-run .before .before .before .before .before .before .before .before .before in
     let leads = run-leads (at-skip-run .skip-run .ensures) (c .before .before .count .given .1) in
     (omega (arith, start .pre .0, leads .forward), (start .pre .1, (pos-of-ne-zero (at-skip-run .before .if2 .left), run-plain (at-skip-run .skip-run .ensures) (c .before .before .count .given .1))))
 
@@ -73,7 +73,7 @@ sig-type-returns-3 t c =
     let at-sig-plain = at-end .before .before .before .before in
     let at-count = at-sig-plain .before .before .before in
     let at-if2 = at-count .before .before .before in
-    let start = at-if2 .before .before .before .before .before .before .before in
+    let start = at-if2 .before .before .before .before .before .before .before .before in
     let a = start .args in
     let e = envOf (a .tables .now) (a .layout .now) (a .strings .now) (a .blob .now) (a .owners .now) in
     let leads = run-leads (at-count .before .before .skip-run .ensures) (at-count .count .given .1) in
@@ -89,7 +89,7 @@ sig-type-returns-4 t c =
     let at-sig-plain = c .before .before .before .before .before in
     let at-count = at-sig-plain .before .before .before in
     let at-if2 = at-count .before .before .before in
-    let start = at-if2 .before .before .before .before .before .before .before in
+    let start = at-if2 .before .before .before .before .before .before .before .before in
     let a = start .args in
     let e = envOf (a .tables .now) (a .layout .now) (a .strings .now) (a .blob .now) (a .owners .now) in
     let leads = run-leads (at-count .before .before .skip-run .ensures) (at-count .count .given .1) in
@@ -99,7 +99,7 @@ sig-type-returns-4 t c =
 pub sig-type-returns-5 : (t : ℕ) → sig-type-lts.Need-returns-5 (known-sig-type t) (sig-type-at t) sig-type.Post
 sig-type-returns-5 t c =
     let at-skip-run = c .before .before .before in
-    let start = at-skip-run .before .before .before .before .before .before .before .before in
+    let start = at-skip-run .before .before .before .before .before .before .before .before .before in
     let a = start .args in
     let e = envOf (a .tables .now) (a .layout .now) (a .strings .now) (a .blob .now) (a .owners .now) in
     forms.run-broken e (a .left) (a .sig .now) (a .pos) (pos-of-ne-zero (at-skip-run .before .if2 .left)) _ (run-stops (at-skip-run .skip-run .ensures) (c .before .next2 .given .1))

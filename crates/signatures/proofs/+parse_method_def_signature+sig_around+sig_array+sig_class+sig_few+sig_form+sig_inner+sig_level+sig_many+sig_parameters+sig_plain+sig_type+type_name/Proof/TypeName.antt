@@ -36,7 +36,7 @@ type-name-cut-requires t c κs = search needs
 pub type-name-sig-type-requires : (t : ℕ) → type-name-lts.Need-sig-type-requires (known-type-name t) (type-name-at t) type-name.Post
 type-name-sig-type-requires t c κs =
     let at-start = c .before .before .before in
-    let start = at-start .before .before .before .before .before .before .before .before in
+    let start = at-start .before .before .before .before .before .before .before .before .before in
     let a = start .args in
     let there = blob-there (at-start .before .before .spec-blob .ensures (a .strings .now)) (at-start .start .given .1) in
     (omega (arith, start .pre .0, forms.cut-shorter _ _ _ _ (there .1) (c .before .cut .ensures)), start .pre .1)
@@ -62,7 +62,7 @@ pub type-name-returns : (t : ℕ) → type-name-lts.Need-returns (known-type-nam
 unfolding envIn
 type-name-returns t c =
     let at-match = c .before .before .before .before in
-    let start = at-match .before .before .before .before .before in
+    let start = at-match .before .before .before .before .before .before in
     let a = start .args in
     let e = envOf (a .tables .now) (a .layout .now) (a .strings .now) (a .blob .now) (a .owners .now) in
     let T = type e (a .left) in
@@ -77,7 +77,7 @@ pub type-name-returns-2 : (t : ℕ) → type-name-lts.Need-returns-2 (known-type
 unfolding envIn
 type-name-returns-2 t c =
     let at-match = c .before .before .before .before in
-    let start = at-match .before .before .before .before .before in
+    let start = at-match .before .before .before .before .before .before in
     let a = start .args in
     let e = envOf (a .tables .now) (a .layout .now) (a .strings .now) (a .blob .now) (a .owners .now) in
     let T = type e (a .left) in
@@ -94,7 +94,7 @@ type-name-returns-3 t c =
     let at-sig-type = c .before .before .before .before .before in
     let at-start = at-sig-type .before .before .before .before in
     let at-match = at-start .before .before .before in
-    let start = at-match .before .before .before .before .before in
+    let start = at-match .before .before .before .before .before .before in
     let a = start .args in
     let e = envOf (a .tables .now) (a .layout .now) (a .strings .now) (a .blob .now) (a .owners .now) in
     let T = type e (a .left) in
@@ -112,7 +112,7 @@ type-name-returns-4 t c =
     let at-sig-type = c .before .before .before .before in
     let at-start = at-sig-type .before .before .before .before in
     let at-match = at-start .before .before .before in
-    let start = at-match .before .before .before .before .before in
+    let start = at-match .before .before .before .before .before .before in
     let a = start .args in
     let e = envOf (a .tables .now) (a .layout .now) (a .strings .now) (a .blob .now) (a .owners .now) in
     let T = type e (a .left) in
@@ -124,7 +124,7 @@ pub type-name-returns-5 : (t : ℕ) → type-name-lts.Need-returns-5 (known-type
 unfolding envIn
 type-name-returns-5 t c =
     let at-match = c .before .before .before in
-    let start = at-match .before .before .before .before .before in
+    let start = at-match .before .before .before .before .before .before in
     let a = start .args in
     let e = envOf (a .tables .now) (a .layout .now) (a .strings .now) (a .blob .now) (a .owners .now) in
     let T = type e (a .left) in
@@ -133,7 +133,7 @@ type-name-returns-5 t c =
 -- src/lib.rt:604:1
 pub type-name-returns-6 : (t : ℕ) → type-name-lts.Need-returns-6 (known-type-name t) (type-name-at t) type-name.Post
 type-name-returns-6 t c =
-    let start = c .before .before .before .before .before in
+    let start = c .before .before .before .before .before .before in
     let a = start .args in
     let e = envOf (a .tables .now) (a .layout .now) (a .strings .now) (a .blob .now) (a .owners .now) in
     let T = type e (a .left) in

@@ -12,6 +12,9 @@ use Rattle.type_vectors.proofs.types.render_by.Reads as render-by-reads
 base-options-requires : tie.Need-base-options-requires
 base-options-requires c κs = search needs
 
+slice-aggregate-open : tie.Need-slice-aggregate-open
+slice-aggregate-open c = search needs
+
 -- src/types.rt:228:9
 open-requires : tie.Need-open-requires
 open-requires c κs = search needs
@@ -24,9 +27,12 @@ enum-known-why c = search needs
 enum-told : tie.Need-enum-told
 enum-told c = search needs
 
+slice-aggregate-render-by : tie.Need-slice-aggregate-render-by
+slice-aggregate-render-by c = search needs
+
 -- src/types.rt:236:26
 render-by-requires : tie.Need-render-by-requires
-render-by-requires c κs = opened-laid (c .before .before .before .before .«open» .ensures) (c .before .before .enum-told .given .1)
+render-by-requires c κs = opened-laid (c .before .before .before .before .before .«open» .ensures) (c .before .before .enum-told .given .1)
 
 -- src/types.rt:220:1
 returns : tie.Need-returns
@@ -45,9 +51,11 @@ render-spec =
     tie.close
     (tie.spec
     base-options-requires
+    slice-aggregate-open
     open-requires
     enum-known-why
     enum-told
+    slice-aggregate-render-by
     render-by-requires
     returns
     same-length
