@@ -47,6 +47,7 @@ pub struct Placed {
 
 // How many classes there are: TypeDef row 1 is none.
 pub fn count_classes(layout: &[u32]) -> usize
+    requires { ⌜ columns.size ≤ length (now layout) ⌝ }
     ensures { λ r. ⌜ r ≡ rowsAt (now (layout .entry)) columns.typeName - 1 ⌝ }
 {
     let n = rows::count_rows(layout, columns::TYPE_NAME);
@@ -54,7 +55,7 @@ pub fn count_classes(layout: &[u32]) -> usize
 }
 
 pub fn class_row(layout: &[u32], class: ClassNumber) -> ClassRow
-    requires { ⌜ rowsAt (now layout) columns.typeName < 4294967296 ⌝ }
+    requires { ⌜ (rowsAt (now layout) columns.typeName < 4294967296) × (columns.size ≤ length (now layout)) ⌝ }
     ensures { λ r. ⌜ ClassRowIs (now (layout .entry)) (class .0) r ⌝ }
 {
     let row = classes::row_of(class);

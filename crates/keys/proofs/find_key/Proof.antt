@@ -10,7 +10,7 @@ use Rattle.keys.proofs.find_key_from.Reads as find-key-from-reads
 -- src/lib.rt:85:5
 find-key-from-requires : tie.Need-find-key-from-requires
 find-key-from-requires c κs =
-    let start = c .before in
+    let start = c .before .before in
     (start .pre .0, (start .pre .1, omega arith, keyed-none _ _, omega arith))
 
 -- src/lib.rt:80:1

@@ -25,7 +25,7 @@ count-rows-requires c κs = search needs
 -- src/lib.rt:87:5
 loop-holds : tie.Need-loop-holds Inv-loop μ-loop
 loop-holds c =
-    let known = c .before .before .pre .1 in
+    let known = c .before .before .before .pre .1 in
     (omega (arith, c .count-rows .ensures, known .1), c .count-rows .ensures, rw (known .2) (keyed-at-most _ _ _), known .3, known .2)
 
 -- src/lib.rt:89:9

@@ -15,7 +15,7 @@ use Rattle.places.proofs.own_methods.Reads as own-methods-reads
 
 -- src/lib.rt:130:11
 class-row-requires : tie.Need-class-row-requires
-class-row-requires c κs = rows-narrow (c .before .pre) columns.typeName (omega arith)
+class-row-requires c κs = (rows-narrow (c .before .before .pre) columns.typeName (omega arith), c .before .before .pre .size)
 
 -- src/lib.rt:131:23
 enum-known-row : tie.Need-enum-known-row
@@ -24,7 +24,7 @@ enum-known-row c = search needs
 -- src/lib.rt:132:17
 own-methods-requires : tie.Need-own-methods-requires
 own-methods-requires c κs =
-    let start = c .before .before .before .before .before in
+    let start = c .before .before .before .before .before .before in
     let at = class-found (c .before .before .before .class-row .ensures) (c .before .row .given .1) in
     (start .pre, (omega (arith, at .0), omega (arith, at .0, at .1, same-rows (start .pre) columns.typeName columns.methodList (omega arith) (omega arith) refl)))
 
@@ -39,7 +39,7 @@ enum-told c = search needs
 -- src/lib.rt:118:1
 returns : tie.Need-returns
 returns c = λ strings blob known.
-    let start = c .before .before .before .before .before .before .before in
+    let start = c .before .before .before .before .before .before .before .before in
     let at = class-found (c .before .before .before .before .before .class-row .ensures) (c .before .before .before .row .given .1) in
     let own = c .before .own-methods .ensures in
     let owns = own .1 strings blob known in
@@ -48,7 +48,7 @@ returns c = λ strings blob known.
 -- src/lib.rt:118:1
 returns-2 : tie.Need-returns-2
 returns-2 c = λ strings blob known.
-    let start = c .before .before .before .before in
+    let start = c .before .before .before .before .before in
     (method-none _ _ _ (unlisted (start .pre) strings blob _ (class-missed (c .before .before .class-row .ensures) (c .enum-told .given .1))), known)
 
 pub place-method-spec : {M : Type 1} → statement M

@@ -28,7 +28,7 @@ tell-string-requires : tie.Need-tell-string-requires
 tell-string-requires c κs =
     let at-i = c .before .before in
     let at-find-key = at-i .before .before in
-    let start = at-find-key .before .before .before .before .before in
+    let start = at-find-key .before .before .before .before .before .before in
     (start .pre, (omega arith, generics-found (start .pre) [] [] _ _ _ (at-find-key .find-key .ensures) (at-i .i .given .1) .0))
 
 -- src/lib.rt:99:23
@@ -46,7 +46,7 @@ returns c = λ blob.
     let at-i = at-tell-string .before .before .before in
     let at-find-key = at-i .before .before in
     let at-wide = at-find-key .before in
-    let start = at-wide .before .before .before .before in
+    let start = at-wide .before .before .before .before .before in
     told-generic (start .pre) _ blob _ (at-wide .wide .ensures .0) (at-find-key .find-key .ensures) (at-i .i .given .1) (at-tell-string .tell-string .ensures)
 
 -- src/lib.rt:82:1
@@ -54,7 +54,7 @@ returns-2 : tie.Need-returns-2
 returns-2 c = λ blob.
     let at-find-key = c .before .before in
     let at-wide = at-find-key .before in
-    let start = at-wide .before .before .before .before in
+    let start = at-wide .before .before .before .before .before in
     told-no-generic (start .pre) _ blob _ (at-wide .wide .ensures .0) (at-find-key .find-key .ensures) (c .enum-told .given .1)
 
 pub tell-generic-spec : {M : Type 1} → statement M
