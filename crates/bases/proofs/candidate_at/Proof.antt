@@ -25,14 +25,14 @@ sub-place c = search needs
 -- src/lib.rt:92:13
 read-column-requires : tie.Need-read-column-requires
 read-column-requires c κs =
-    let start = c .before .before .before in
+    let start = c .before .before .before .before in
     let known = start .pre .1 .0 in
     (start .pre .0, (omega arith, omega (arith, c .wide .ensures .0, known .0, known .1, same-rows (start .pre .0) columns.typeName columns.extends (omega arith) (omega arith) refl)))
 
 -- src/lib.rt:93:9
 returns : tie.Need-returns
 returns c = λ strings blob.
-    let start = c .before .before .before .before in
+    let start = c .before .before .before .before .before in
     candidate-extended (start .pre .0) strings blob _ (start .pre .1 .0 .0) _ (start .pre .1 .0 .1) (c .before .before .if1 .taken) (omega (arith, c .before .wide .ensures .0)) (c .read-column .ensures)
 
 -- src/lib.rt:95:68
@@ -46,7 +46,7 @@ sub-find-key-from c = search needs
 -- src/lib.rt:95:11
 find-key-from-requires : tie.Need-find-key-from-requires
 find-key-from-requires c κs =
-    let start = c .before .before .before in
+    let start = c .before .before .before .before in
     (start .pre .0, (omega arith, start .pre .1 .1 .0, rw (c .wide2 .ensures .0) (start .pre .1 .1 .1), start .pre .1 .1 .2))
 
 -- src/lib.rt:96:17
@@ -56,13 +56,13 @@ enum-known-own c = search needs
 -- src/lib.rt:97:17
 read-column-requires-2 : tie.Need-read-column-requires-2
 read-column-requires-2 c κs =
-    let start = c .before .before .before .before .before .before .before in
+    let start = c .before .before .before .before .before .before .before .before in
     (start .pre .0, (omega arith, interfaces-found (start .pre .0) [] [] _ _ _ (c .before .before .before .find-key-from .ensures) (c .before .own .given .1) .1))
 
 -- src/lib.rt:98:41
 add-t17 : tie.Need-add-t17
 add-t17 c =
-    let start = c .before .before .before .before .before .before .before .before in
+    let start = c .before .before .before .before .before .before .before .before .before in
     let found = interfaces-found (start .pre .0) [] [] _ _ _ (c .before .before .before .before .find-key-from .ensures) (c .before .before .own .given .1) in
     record { fits = omega (arith, found .0, rows-narrow (start .pre .0) columns.implClass (omega arith)) }
 
@@ -73,14 +73,14 @@ enum-told c = search needs
 -- src/lib.rt:76:1
 returns-2 : tie.Need-returns-2
 returns-2 c = λ strings blob.
-    let start = c .before .before .before .before .before .before .before .before in
+    let start = c .before .before .before .before .before .before .before .before .before in
     candidate-own (start .pre .0) strings blob _ (start .pre .1 .0 .0) _ _ (c .before .before .before .before .before .before .if1 .left) (c .before .before .before .before .before .wide2 .ensures .0) refl
     (c .before .before .before .before .find-key-from .ensures) _ (c .before .before .own .given .1) (c .read-column2 .ensures)
 
 -- src/lib.rt:76:1
 returns-3 : tie.Need-returns-3
 returns-3 c = λ strings blob.
-    let start = c .before .before .before .before .before .before in
+    let start = c .before .before .before .before .before .before .before in
     candidate-past (start .pre .0) strings blob _ (start .pre .1 .0 .0) _ _ (c .before .before .before .before .if1 .left) (c .before .before .before .wide2 .ensures .0) refl
     (c .before .before .find-key-from .ensures) (c .enum-told .given .1)
 

@@ -21,13 +21,13 @@ no-bases-requires c κs = search needs
 -- src/lib.rt:223:9
 push-base-requires : tie.Need-push-base-requires
 push-base-requires c κs =
-    let start = c .before .before .before .before .before in
+    let start = c .before .before .before .before .before .before in
     (start .pre .0, (start .pre .1, c .no-bases .ensures _))
 
 -- src/lib.rt:210:1
 returns : tie.Need-returns
 returns c =
-    let start = c .before .before .before .before .before .before .before .before in
+    let start = c .before .before .before .before .before .before .before .before .before in
     let based = c .before .before .push-base in
     let narrow = rows-narrow (start .pre .0) columns.implClass (omega arith) in
     based .ensures .2 (never-found (start .pre .0) (start .args .strings .now) (start .args .blob .now) _ (start .pre .1 .0) _ (based .result .place) (omega arith) (based .ensures .0))

@@ -43,7 +43,7 @@ count-rows-requires c κs = search needs
 -- src/lib.rt:161:5
 loop-holds : tie.Need-loop-holds Inv-loop μ-loop
 loop-holds c =
-    let start = c .before .before .before .before .before .before .before in
+    let start = c .before .before .before .before .before .before .before .before in
     let from = c .before .bases-before .ensures in
     search-start _ (start .pre .1 .0 .0) (from .0 _ (start .pre .1 .1)) (from .1) (c .before .before .wide .ensures .0) (from .2)
 
@@ -59,7 +59,7 @@ enum-known-index c = search needs
 add-i : tie.Need-add-i Inv-loop μ-loop
 add-i c =
     let looped = c .before .before .before .before .before .before in
-    let start = looped .before .before .before .before .before .before .before in
+    let start = looped .before .before .before .before .before .before .before .before in
     record { fits = omega (arith, looped .count-rows .ensures, rows-narrow (start .pre .0) columns.implClass (omega arith)) }
 
 -- src/lib.rt:167:23
@@ -74,7 +74,7 @@ enum-known-end c = search needs
 add-t29 : tie.Need-add-t29 Inv-loop μ-loop
 add-t29 c =
     let looped = c .before .before .before .before .before .before .before .before .before .before .before .before .before .before in
-    let start = looped .before .before .before .before .before .before .before in
+    let start = looped .before .before .before .before .before .before .before .before in
     record { fits = omega (arith, search-seen (c .before .before .before .before .before .before .before .before .before .before .before .before .before .loop .inv), c .before .before .before .before .before .before .before .before .before .before .before .before .loop-test .taken, looped .count-rows .ensures, rows-narrow (start .pre .0) columns.implClass (omega arith)) }
 
 -- src/lib.rt:175:29
@@ -85,7 +85,7 @@ same-length c = search needs
 returns : tie.Need-returns Inv-loop μ-loop
 returns c =
     let tried = c .before .before .before .before .before .before .before .before .before .before .before in
-    let start = tried .before .before .before .before .before .before .before .before .before .before in
+    let start = tried .before .before .before .before .before .before .before .before .before .before .before in
     let wide = tried .before .before .before .before .before .wide .ensures .0 in
     let found = search-found (tried .before .before .loop .inv) (rw (c .before .before .before .before .before .before .before .before .before .index .given .1) at (tried .candidate-at .ensures (start .args .strings .now) (start .args .blob .now))) wide (c .if1 .taken)
     (rw (ap placeSays (c .before .before .end .given .1)) at (c .before .before .before .before .before .before .push-type .ensures)) in
@@ -95,7 +95,7 @@ returns c =
 add-seen : tie.Need-add-seen Inv-loop μ-loop
 add-seen c =
     let looped = c .before .before .before .before .before .before .before .before .before .before .before .before .before .before in
-    let start = looped .before .before .before .before .before .before .before in
+    let start = looped .before .before .before .before .before .before .before .before in
     record { fits = omega (arith, search-seen (c .before .before .before .before .before .before .before .before .before .before .before .before .before .loop .inv), c .before .before .before .before .before .before .before .before .before .before .before .before .loop-test .taken, looped .count-rows .ensures, rows-narrow (start .pre .0) columns.implClass (omega arith)) }
 
 -- src/lib.rt:161:5
@@ -106,7 +106,7 @@ loop-less c = search needs
 loop-again : tie.Need-loop-again Inv-loop μ-loop
 loop-again c =
     let tried = c .before .before .before .before .before .before .before .before .before .before .before in
-    let start = tried .before .before .before .before .before .before .before .before .before .before in
+    let start = tried .before .before .before .before .before .before .before .before .before .before .before in
     search-more (tried .before .before .loop .inv) (rw (c .before .before .before .before .before .before .before .before .before .index .given .1) at (tried .candidate-at .ensures (start .args .strings .now) (start .args .blob .now))) (c .if1 .left)
     (rw (ap placeSays (c .before .before .end .given .1)) at (c .before .before .before .before .before .before .push-type .ensures))
 
@@ -121,7 +121,7 @@ loop-less-2 c = search needs
 loop-again-2 : tie.Need-loop-again-2 Inv-loop μ-loop
 loop-again-2 c =
     let tried = c .before .before .before .before .before .before .before .before .before in
-    let start = tried .before .before .before .before .before .before .before .before .before .before in
+    let start = tried .before .before .before .before .before .before .before .before .before .before .before in
     search-on (tried .before .before .loop .inv) (rw (c .before .before .before .before .before .before .before .index .given .1) at (tried .candidate-at .ensures (start .args .strings .now) (start .args .blob .now)))
     (rw (ap placeSays (c .enum-told .given .1)) at (c .before .before .before .before .push-type .ensures))
 
@@ -137,7 +137,7 @@ same-length-2 c = search needs
 returns-2 : tie.Need-returns-2 Inv-loop μ-loop
 returns-2 c =
     let tried = c .before .before in
-    let start = tried .before .before .before .before .before .before .before .before .before .before in
+    let start = tried .before .before .before .before .before .before .before .before .before .before .before in
     let wide = tried .before .before .before .before .before .wide .ensures .0 in
     let over = search-past (tried .before .before .loop .inv) wide (rw (c .enum-told2 .given .1) at (tried .candidate-at .ensures (start .args .strings .now) (start .args .blob .now))) in
     (over .0, over .1, λ _. over .2)
@@ -149,7 +149,7 @@ same-length-3 c = search needs
 -- src/lib.rt:136:1
 returns-3 : tie.Need-returns-3 Inv-loop μ-loop
 returns-3 c =
-    let start = c .before .before .before .before .before .before .before .before .before in
+    let start = c .before .before .before .before .before .before .before .before .before .before in
     let over = search-over (c .before .loop .inv) (c .before .before .before .before .wide .ensures .0)
     (omega (arith, c .loop-test .left, c .before .before .count-rows .ensures, candidates-most (start .pre .0) (start .args .strings .now) (start .args .blob .now) _ (start .pre .1 .0 .0))) in
     (over .0, over .1, λ _. over .2)
