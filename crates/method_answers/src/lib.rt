@@ -86,7 +86,15 @@ pub fn tell_method_name(
         (now (buf .entry)) at (now (buf .exit)) r) ⌝ }
 {
     match row_inside(layout, row) {
-        MethodRow::Row(i) => rows::tell_string(buf, at, tables, strings, layout, columns::METHOD_NAME, i),
+        MethodRow::Row(i) => rows::tell_string(
+            buf,
+            at,
+            tables,
+            strings,
+            layout,
+            columns::METHOD_NAME,
+            i,
+        ),
         MethodRow::NoRow => Told::NoRow,
     }
 }

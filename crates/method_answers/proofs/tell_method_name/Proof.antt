@@ -1,5 +1,4 @@
 use native.Mathlib.Omega.{arith}
-use Rattle.rows.specs.Columns as columns
 use Rattle.places.proofs.Laws.{method-found, method-missed}
 use Rattle.places.proofs.Values.{method-name, no-method-name}
 use borrow.Author.Needs.{needs}
