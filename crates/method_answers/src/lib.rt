@@ -1,15 +1,24 @@
 // The answers of the calls for a method, of a stream that is opened: by its layout. The public calls open it, and so does a listing, once.
+// Which row a method of a class has is found before (`places::method_row`), once for all questions about it. A name is told at a place.
 use buffers::Refusal;
 use buffers::Reply;
+use buffers::Told;
 use classes::ClassNumber;
+use method_signatures::Signature;
+use method_signatures::Typed;
 use places::ClassRow;
 use places::MethodRow;
 use rows::columns;
+ghost use mathlib.Core.Path.{_≡_};
 ghost use mathlib.Core.List.{List};
-ghost use Prim.Native.Nat.{ℕ};
-ghost use Rattle.buffers.specs.Replies.{Named};
+ghost use Prim.Native.Nat.{ℕ, _<_};
+ghost use Rattle.buffers.specs.Telling.{ToldIs};
 ghost use Rattle.record.specs.Answers.{Numbered, methodCount, methodFlags, methodName, methodGenericCount, methodGenericName, returnType, parameterCount, parameterType, parameterName};
-ghost use Rattle.rows.specs.Layout.{Laid, viewIn};
+ghost use Rattle.rows.specs.Columns as columns;
+ghost use Rattle.rows.specs.Layout.{Laid, rowsAt, viewIn};
+ghost use Rattle.places.specs.Places.{MethodRowIs};
+ghost use Rattle.places.specs.declared.MethodRow.the-variants.{Row};
+ghost use Rattle.method_signatures.specs.Known.{KnowsSignature};
 
 // How many methods a class has (II.22.26).
 pub fn count_methods_of(tables: &[u8], layout: &[u32], class: ClassNumber) -> Reply
@@ -26,13 +35,32 @@ pub fn count_methods_of(tables: &[u8], layout: &[u32], class: ClassNumber) -> Re
     }
 }
 
-// The flags of method m of a class (II.23.1.10).
-pub fn method_flags_of(tables: &[u8], layout: &[u32], class: ClassNumber, m: u32) -> Reply
+// A method's row, where the table has it. One that is some method's stays as it is.
+fn row_inside(layout: &[u32], row: MethodRow) -> MethodRow
+    ensures { λ r.
+        ⌜ ((i : ℕ) → r ≡ Row i → i < rowsAt (now (layout .entry)) columns.methodName) ×
+        ((t strings blob : List ℕ) → Laid t (now (layout .entry)) → (c m : ℕ) → MethodRowIs (viewIn t (now (layout .entry)) strings blob) c m
+        row → MethodRowIs (viewIn t (now (layout .entry)) strings blob) c m r) ⌝ }
+{
+    match row {
+        MethodRow::Row(i) => {
+            if rows::count_rows(layout, columns::METHOD_NAME) <= i {
+                return MethodRow::NoRow;
+            }
+            MethodRow::Row(i)
+        }
+        MethodRow::NoRow => MethodRow::NoRow,
+    }
+}
+
+// The flags of a method (II.23.1.10).
+pub fn method_flags_of(tables: &[u8], layout: &[u32], row: MethodRow) -> Reply
     requires { ⌜ Laid (now tables) (now layout) ⌝ }
     ensures { λ r.
-        ⌜ ((strings blob : List ℕ) → Numbered (methodFlags (viewIn (now (tables .entry)) (now (layout .entry)) strings blob) (class .0) m) r) ⌝ }
+        ⌜ ((strings blob : List ℕ) (c m : ℕ) → MethodRowIs (viewIn (now (tables .entry)) (now (layout .entry)) strings blob) c m row → Numbered
+        (methodFlags (viewIn (now (tables .entry)) (now (layout .entry)) strings blob) c m) r) ⌝ }
 {
-    match places::method_row(tables, layout, class, m) {
+    match row_inside(layout, row) {
         MethodRow::Row(i) => {
             let flags = rows::read_column(tables, layout, columns::METHOD_FLAGS, i);
             Reply::Is(flags as usize)
@@ -41,107 +69,121 @@ pub fn method_flags_of(tables: &[u8], layout: &[u32], class: ClassNumber, m: u32
     }
 }
 
-// The name of method m of a class.
-pub fn write_method_name(
+// The name of a method.
+pub fn tell_method_name(
     buf: &mut [u8],
+    at: usize,
     tables: &[u8],
     strings: &[u8],
     layout: &[u32],
-    class: ClassNumber,
-    m: u32,
-) -> Reply
+    row: MethodRow,
+) -> Told
     requires { ⌜ Laid (now tables) (now layout) ⌝ }
     ensures { λ r.
-        ⌜ ((blob : List ℕ) → Named (methodName (viewIn (now (tables .entry)) (now (layout .entry)) (now (strings .entry)) blob) (class .0) m)
-        (now (buf .entry)) r (now (buf .exit))) ⌝ }
+        ⌜ ((blob : List ℕ) (c m : ℕ) → MethodRowIs (viewIn (now (tables .entry)) (now (layout .entry)) (now (strings .entry)) blob) c m row → ToldIs
+        (methodName (viewIn (now (tables .entry)) (now (layout .entry)) (now (strings .entry)) blob) c m)
+        (now (buf .entry)) at (now (buf .exit)) r) ⌝ }
 {
-    match places::method_row(tables, layout, class, m) {
-        MethodRow::Row(i) => {
-            rows::write_string(buf, tables, strings, layout, columns::METHOD_NAME, i)
-        }
-        MethodRow::NoRow => buffers::refuse(buf, Refusal::NoSuchRow),
+    match row_inside(layout, row) {
+        MethodRow::Row(i) => rows::tell_string(
+            buf,
+            at,
+            tables,
+            strings,
+            layout,
+            columns::METHOD_NAME,
+            i,
+        ),
+        MethodRow::NoRow => Told::NoRow,
     }
 }
 
-// How many generic parameters method m of a class has (II.22.20).
-pub fn count_method_generics_of(tables: &[u8], layout: &[u32], class: ClassNumber, m: u32) -> Reply
+// How many generic parameters a method has (II.22.20).
+pub fn count_method_generics_of(tables: &[u8], layout: &[u32], row: MethodRow) -> Reply
     requires { ⌜ Laid (now tables) (now layout) ⌝ }
     ensures { λ r.
-        ⌜ ((strings blob : List ℕ) → Numbered
-        (methodGenericCount (viewIn (now (tables .entry)) (now (layout .entry)) strings blob) (class .0) m) r) ⌝ }
+        ⌜ ((strings blob : List ℕ) (c m : ℕ) → MethodRowIs (viewIn (now (tables .entry)) (now (layout .entry)) strings blob) c m row → Numbered
+        (methodGenericCount (viewIn (now (tables .entry)) (now (layout .entry)) strings blob) c m) r) ⌝ }
 {
-    match places::method_row(tables, layout, class, m) {
+    match row_inside(layout, row) {
         MethodRow::Row(i) => { Reply::Is(places::count_generics(tables, layout, 2 * (i + 1) + 1)) }
         MethodRow::NoRow => Reply::No(Refusal::NoSuchRow),
     }
 }
 
-// The name of generic parameter g of method m of a class.
-pub fn write_method_generic_name(
+// The name of generic parameter g of a method.
+pub fn tell_method_generic_name(
     buf: &mut [u8],
+    at: usize,
     tables: &[u8],
     strings: &[u8],
     layout: &[u32],
-    class: ClassNumber,
-    m: u32,
+    row: MethodRow,
     g: u32,
-) -> Reply
+) -> Told
     requires { ⌜ Laid (now tables) (now layout) ⌝ }
     ensures { λ r.
-        ⌜ ((blob : List ℕ) → Named
-        (methodGenericName (viewIn (now (tables .entry)) (now (layout .entry)) (now (strings .entry)) blob) (class .0) m g)
-        (now (buf .entry)) r (now (buf .exit))) ⌝ }
+        ⌜ ((blob : List ℕ) (c m : ℕ) → MethodRowIs (viewIn (now (tables .entry)) (now (layout .entry)) (now (strings .entry)) blob) c m row → ToldIs
+        (methodGenericName (viewIn (now (tables .entry)) (now (layout .entry)) (now (strings .entry)) blob) c m g)
+        (now (buf .entry)) at (now (buf .exit)) r) ⌝ }
 {
-    match places::method_row(tables, layout, class, m) {
+    match row_inside(layout, row) {
         MethodRow::Row(i) => {
             let owner = 2 * (i + 1) + 1;
-            places::write_generic(buf, tables, strings, layout, owner, g)
+            places::tell_generic(buf, at, tables, strings, layout, owner, g)
         }
-        MethodRow::NoRow => buffers::refuse(buf, Refusal::NoSuchRow),
+        MethodRow::NoRow => Told::NoRow,
     }
 }
 
-// The return type of method m of a class (II.23.2.1).
-pub fn write_return_type_of(
+// The return type of a method (II.23.2.1), and what is known of its signature behind it.
+pub fn tell_return_type_of(
     buf: &mut [u8],
+    at: usize,
     tables: &[u8],
     strings: &[u8],
     blob: &[u8],
     layout: &[u32],
-    class: ClassNumber,
-    m: u32,
-) -> Reply
+    row: MethodRow,
+) -> Typed
     requires { ⌜ Laid (now tables) (now layout) ⌝ }
     ensures { λ r. let v = viewIn (now (tables .entry)) (now (layout .entry)) (now (strings .entry)) (now (blob .entry)) in
-        ⌜ Named (returnType v (class .0) m) (now (buf .entry)) r (now (buf .exit)) ⌝ }
+        ⌜ ((c m : ℕ) → MethodRowIs v c m row → ToldIs (returnType v c m) (now (buf .entry)) at (now (buf .exit)) (r .told)) ×
+        KnowsSignature v (now (blob .entry)) (r .signature) ⌝ }
 {
-    match places::method_row(tables, layout, class, m) {
-        MethodRow::Row(i) => method_signatures::write_return_type(
+    match row_inside(layout, row) {
+        MethodRow::Row(i) => method_signatures::tell_return_type(
             buf,
+            at,
             tables,
             strings,
             blob,
             layout,
             i,
         ),
-        MethodRow::NoRow => buffers::refuse(buf, Refusal::NoSuchRow),
+        MethodRow::NoRow => {
+            let signature = method_signatures::no_signature();
+            Typed {
+                told: Told::NoRow,
+                signature,
+            }
+        }
     }
 }
 
-// How many parameters method m of a class has.
+// How many parameters a method has.
 pub fn count_params_of(
     tables: &[u8],
     strings: &[u8],
     blob: &[u8],
     layout: &[u32],
-    class: ClassNumber,
-    m: u32,
+    row: MethodRow,
 ) -> Reply
     requires { ⌜ Laid (now tables) (now layout) ⌝ }
     ensures { λ r. let v = viewIn (now (tables .entry)) (now (layout .entry)) (now (strings .entry)) (now (blob .entry)) in
-        ⌜ Numbered (parameterCount v (class .0) m) r ⌝ }
+        ⌜ ((c m : ℕ) → MethodRowIs v c m row → Numbered (parameterCount v c m) r) ⌝ }
 {
-    match places::method_row(tables, layout, class, m) {
+    match row_inside(layout, row) {
         MethodRow::Row(i) => Reply::Is(method_signatures::count_params(
             tables,
             strings,
@@ -153,60 +195,76 @@ pub fn count_params_of(
     }
 }
 
-// The type of parameter p of method m of a class.
-pub fn write_param_type_of(
+// The type of parameter p of a method, by what is known of a signature, and what is known behind it.
+pub fn tell_param_type_of(
     buf: &mut [u8],
+    at: usize,
     tables: &[u8],
     strings: &[u8],
     blob: &[u8],
     layout: &[u32],
-    class: ClassNumber,
-    m: u32,
+    row: MethodRow,
     p: u32,
-) -> Reply
+    known: Signature,
+) -> Typed
     requires { ⌜ Laid (now tables) (now layout) ⌝ }
+    requires { ⌜ KnowsSignature (viewIn (now tables) (now layout) (now strings) (now blob)) (now blob) known ⌝ }
     ensures { λ r. let v = viewIn (now (tables .entry)) (now (layout .entry)) (now (strings .entry)) (now (blob .entry)) in
-        ⌜ Named (parameterType v (class .0) m p) (now (buf .entry)) r (now (buf .exit)) ⌝ }
+        ⌜ ((c m : ℕ) → MethodRowIs v c m row → ToldIs (parameterType v c m p) (now (buf .entry)) at (now (buf .exit)) (r .told)) ×
+        KnowsSignature v (now (blob .entry)) (r .signature) ⌝ }
 {
-    match places::method_row(tables, layout, class, m) {
-        MethodRow::Row(i) => method_signatures::write_param_type(
+    match row_inside(layout, row) {
+        MethodRow::Row(i) => method_signatures::tell_param_type(
             buf,
+            at,
             tables,
             strings,
             blob,
             layout,
             i,
             p,
+            known,
         ),
-        MethodRow::NoRow => buffers::refuse(buf, Refusal::NoSuchRow),
+        MethodRow::NoRow => Typed {
+            told: Told::NoRow,
+            signature: known,
+        },
     }
 }
 
-// The name of parameter p of method m of a class.
-pub fn write_param_name_of(
+// The name of parameter p of a method, likewise.
+pub fn tell_param_name_of(
     buf: &mut [u8],
+    at: usize,
     tables: &[u8],
     strings: &[u8],
     blob: &[u8],
     layout: &[u32],
-    class: ClassNumber,
-    m: u32,
+    row: MethodRow,
     p: u32,
-) -> Reply
+    known: Signature,
+) -> Typed
     requires { ⌜ Laid (now tables) (now layout) ⌝ }
+    requires { ⌜ KnowsSignature (viewIn (now tables) (now layout) (now strings) (now blob)) (now blob) known ⌝ }
     ensures { λ r. let v = viewIn (now (tables .entry)) (now (layout .entry)) (now (strings .entry)) (now (blob .entry)) in
-        ⌜ Named (parameterName v (class .0) m p) (now (buf .entry)) r (now (buf .exit)) ⌝ }
+        ⌜ ((c m : ℕ) → MethodRowIs v c m row → ToldIs (parameterName v c m p) (now (buf .entry)) at (now (buf .exit)) (r .told)) ×
+        KnowsSignature v (now (blob .entry)) (r .signature) ⌝ }
 {
-    match places::method_row(tables, layout, class, m) {
-        MethodRow::Row(i) => method_signatures::write_param_name(
+    match row_inside(layout, row) {
+        MethodRow::Row(i) => method_signatures::tell_param_name(
             buf,
+            at,
             tables,
             strings,
             blob,
             layout,
             i,
             p,
+            known,
         ),
-        MethodRow::NoRow => buffers::refuse(buf, Refusal::NoSuchRow),
+        MethodRow::NoRow => Typed {
+            told: Told::NoRow,
+            signature: known,
+        },
     }
 }

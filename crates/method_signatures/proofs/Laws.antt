@@ -10,7 +10,7 @@ use native.Mathlib.Nat.{sub-zero, eq-zero-or-pos}
 use native.Mathlib.Omega.{arith}
 use borrow.Author.Tests.{eq-eqb, ne-eqb, le-leb, lt-leb, lt-ltb, le-ltb}
 use lib.Dec.{eqb, leb, ltb, leb→le}
-use lib.ListN.{length, getElem?}
+use lib.ListN.{length}
 use Rattle.numbers.specs.Lists.{tabulate}
 use Rattle.numbers.specs.Reading.{Reader, someAt, noneAt}
 use Rattle.numbers.specs.Compressed.{uintSays}
@@ -70,19 +70,6 @@ module _ (type : Reader Text) where
   pub behind-none : (s : List ℕ) {n : ℕ} (at : ℕ) → n ≡ 0 → behind type n s at ≡ at
   unfolding behind
   behind-none s at e = rw e
-
-  -- The type at a place, and none past the end.
-  pub type-at : (n i : ℕ) (s : List ℕ) (at : ℕ) → i < n → getElem? (typesFrom type n s at) i ≡ some (type s (behind type i s at) .got)
-  unfolding typesFrom behind
-  type-at zero i s at h = absurd (omega arith)
-  type-at (suc n) zero s at h = refl
-  type-at (suc n) (suc i) s at h = type-at n i s (type s at .next) (omega arith)
-
-  pub types-past : (n i : ℕ) (s : List ℕ) (at : ℕ) → n ≤ i → getElem? (typesFrom type n s at) i ≡ none
-  unfolding typesFrom
-  types-past zero i s at h = refl
-  types-past (suc n) zero s at h = absurd (omega arith)
-  types-past (suc n) (suc i) s at h = types-past n i s (type s at .next) (omega arith)
 
   pub types-length : (n : ℕ) (s : List ℕ) (at : ℕ) → length (typesFrom type n s at) ≡ n
   unfolding typesFrom

@@ -473,16 +473,17 @@ fn signature_of(
     ensures { λ r. let v = viewIn (now (tables .entry)) (now (layout .entry)) (now (strings .entry)) (now (blob .entry)) in
         ⌜ KnowsSignature v (now (blob .entry)) r × (r .method ≡ m + 1) ⌝ }
 {
-    if known.method == m + 1 {
+    let row = m + 1;
+    if known.method == row {
         return known;
     }
     find_signature(tables, strings, blob, layout, m, 0)
 }
 
 // One more type has been read.
-fn read_more(known: Signature, next: usize) -> Signature
+fn read_more(known: Signature, after: usize) -> Signature
     requires { ⌜ known .read < 4294967296 ⌝ }
-    ensures { λ r. ⌜ r ≡ readMore known next ⌝ }
+    ensures { λ r. ⌜ r ≡ readMore known after ⌝ }
 {
     Signature {
         method: known.method,
@@ -491,7 +492,7 @@ fn read_more(known: Signature, next: usize) -> Signature
         len: known.len,
         count: known.count,
         read: known.read + 1,
-        next,
+        next: after,
     }
 }
 

@@ -5,7 +5,7 @@ use mathlib.Core.List.{List}
 use Prim.Native.Nat.{ℕ, _+_, _-_, _≤_, _<_}
 use native.Mathlib.Omega.{arith}
 use borrow.Author.Tests.{leb-false}
-use lib.Dec.{leb}
+use lib.Dec.{T, leb}
 use lib.ListN.{length}
 use Rattle.numbers.proofs.Lists.{tabulate-item, tabulate-past, tabulate-length}
 use Rattle.buffers.specs.Replies.{refused, value, number}
@@ -136,3 +136,18 @@ module _ {v : View} {c m : ℕ} where
 
     pub method-missed : r ≡ NoMethod → theMethod v c m ≡ refused (number NoSuchRow)
     method-missed e = method-out (subst (MethodRowIs v c m) e h)
+
+-- A row that is told apart by its case.
+abbrev placeIn : MethodRow → ℕ
+placeIn (MethodAt i) = i
+placeIn NoMethod = 0
+
+abbrev isNone : MethodRow → Bool
+isNone (MethodAt i) = false
+isNone NoMethod = true
+
+pub same-place : {i j : ℕ} → MethodAt i ≡ MethodAt j → i ≡ j
+same-place e = ap placeIn e
+
+pub no-place : {i : ℕ} → NoMethod ≡ MethodAt i → ⊥
+no-place e = subst (λ (r : MethodRow). T (isNone r)) e tt

@@ -1,4 +1,4 @@
-use mathlib.Core.Path.{_≡_, refl, _∙_}
+use mathlib.Core.Path.{refl, _∙_}
 use Prim.Native.Nat.{_-_, _≤_}
 use native.Mathlib.Omega.{arith}
 use borrow.Author.Needs.{needs}
@@ -7,7 +7,6 @@ use Rattle.buffers.proofs.Writing.{kept-same}
 use Rattle.record.specs.Names.{classes}
 use Rattle.rows.specs.Columns as columns
 use Rattle.rows.specs.Layout.{viewIn}
-use Rattle.rows.proofs.Laws.{rows-narrow}
 use Rattle.rows.proofs.Classes.{classes-are}
 use Rattle.method_signatures.specs.Signatures.{ReadFrom, missing}
 use Rattle.method_signatures.proofs.Laws.{from-none, reader-is, reader-stands, reader-fails, reading-behind, kept-twice, reading-missed, reading-stands}

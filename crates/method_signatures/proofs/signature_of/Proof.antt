@@ -9,8 +9,8 @@ use Rattle.method_signatures.proofs.signature_of.Lts as lts
 use Rattle.method_signatures.proofs.find_signature.Reads as find-signature-reads
 
 -- src/lib.rt:477:24
-add-if1 : tie.Need-add-if1
-add-if1 c =
+add-row : tie.Need-add-row
+add-row c =
     let start = c .before .before .before in
     record { fits = omega (arith, start .pre .1 .0, rows-narrow (start .pre .0) columns.methodSignature (omega arith)) }
 
@@ -27,4 +27,4 @@ returns-2 : tie.Need-returns-2
 returns-2 c = search needs
 
 pub signature-of-spec : {M : Type 1} → statement M
-signature-of-spec = tie.close (tie.spec add-if1 returns find-signature-requires returns-2)
+signature-of-spec = tie.close (tie.spec add-row returns find-signature-requires returns-2)
