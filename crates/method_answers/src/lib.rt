@@ -11,7 +11,8 @@ use places::MethodRow;
 use rows::columns;
 ghost use mathlib.Core.Path.{_≡_};
 ghost use mathlib.Core.List.{List};
-ghost use Prim.Native.Nat.{ℕ, _<_};
+ghost use Prim.Native.Nat.{ℕ, _<_, _≤_};
+ghost use lib.ListN.{length};
 ghost use Rattle.buffers.specs.Telling.{ToldIs};
 ghost use Rattle.record.specs.Answers.{Numbered, methodCount, methodFlags, methodName, methodGenericCount, methodGenericName, returnType, parameterCount, parameterType, parameterName};
 ghost use Rattle.rows.specs.Columns as columns;
@@ -37,6 +38,7 @@ pub fn count_methods_of(tables: &[u8], layout: &[u32], class: ClassNumber) -> Re
 
 // A method's row, where the table has it. One that is some method's stays as it is.
 fn row_inside(layout: &[u32], row: MethodRow) -> MethodRow
+    requires { ⌜ columns.size ≤ length (now layout) ⌝ }
     ensures { λ r.
         ⌜ ((i : ℕ) → r ≡ Row i → i < rowsAt (now (layout .entry)) columns.methodName) ×
         ((t strings blob : List ℕ) → Laid t (now (layout .entry)) → (c m : ℕ) → MethodRowIs (viewIn t (now (layout .entry)) strings blob) c m

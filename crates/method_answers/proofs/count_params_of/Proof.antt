@@ -20,7 +20,7 @@ count-params-requires : tie.Need-count-params-requires
 count-params-requires c κs =
     let at-i = c .before in
     let at-row-inside = at-i .before .before in
-    let start = at-row-inside .before .before .before .before in
+    let start = at-row-inside .before .before .before .before .before in
     (start .pre, omega (arith, at-row-inside .row-inside .ensures .0 _ (at-i .i .given .1), same-rows (start .pre) columns.methodName columns.methodSignature (omega arith) (omega arith) refl))
 
 enum-told : tie.Need-enum-told
@@ -30,13 +30,13 @@ returns : tie.Need-returns
 returns c = λ k m h.
     let at-i = c .before .before in
     let at-row-inside = at-i .before .before in
-    let start = at-row-inside .before .before .before .before in
+    let start = at-row-inside .before .before .before .before .before in
     method-parameters (start .pre) _ _ k m (method-found (at-row-inside .row-inside .ensures .1 _ _ _ (start .pre) _ _ h) (at-i .i .given .1)) (c .count-params .ensures)
 
 returns-2 : tie.Need-returns-2
 returns-2 c = λ k m h.
     let at-row-inside = c .before .before in
-    let start = at-row-inside .before .before .before .before in
+    let start = at-row-inside .before .before .before .before .before in
     no-method-parameters (start .pre) _ _ k m (method-missed (at-row-inside .row-inside .ensures .1 _ _ _ (start .pre) _ _ h) (c .enum-told .given .1))
 
 pub count-params-of-spec : {M : Type 1} → statement M

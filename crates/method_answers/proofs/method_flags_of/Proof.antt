@@ -20,7 +20,7 @@ read-column-requires : tie.Need-read-column-requires
 read-column-requires c κs =
     let at-i = c .before in
     let at-row-inside = at-i .before .before in
-    let start = at-row-inside .before .before in
+    let start = at-row-inside .before .before .before in
     (start .pre, (omega arith, omega (arith, at-row-inside .row-inside .ensures .0 _ (at-i .i .given .1), same-rows (start .pre) columns.methodName columns.methodFlags (omega arith) (omega arith) refl)))
 
 cast-t8 : tie.Need-cast-t8
@@ -33,13 +33,13 @@ returns : tie.Need-returns
 returns c = λ strings blob k m h.
     let at-i = c .before .before in
     let at-row-inside = at-i .before .before in
-    let start = at-row-inside .before .before in
+    let start = at-row-inside .before .before .before in
     method-flags (start .pre) strings blob k m (method-found (at-row-inside .row-inside .ensures .1 _ _ _ (start .pre) _ _ h) (at-i .i .given .1)) (c .read-column .ensures)
 
 returns-2 : tie.Need-returns-2
 returns-2 c = λ strings blob k m h.
     let at-row-inside = c .before .before in
-    let start = at-row-inside .before .before in
+    let start = at-row-inside .before .before .before in
     no-method-flags (start .pre) strings blob k m (method-missed (at-row-inside .row-inside .ensures .1 _ _ _ (start .pre) _ _ h) (c .enum-told .given .1))
 
 pub method-flags-of-spec : {M : Type 1} → statement M

@@ -19,21 +19,21 @@ add-owner : tie.Need-add-owner
 add-owner c =
     let at-i = c .before in
     let at-row-inside = at-i .before .before in
-    let start = at-row-inside .before .before .before .before in
+    let start = at-row-inside .before .before .before .before .before in
     record { fits = omega (arith, at-row-inside .row-inside .ensures .0 _ (at-i .i .given .1), rows-narrow (start .pre) columns.methodName (omega arith)) }
 
 mul-owner : tie.Need-mul-owner
 mul-owner c =
     let at-i = c .before in
     let at-row-inside = at-i .before .before in
-    let start = at-row-inside .before .before .before .before in
+    let start = at-row-inside .before .before .before .before .before in
     record { fits = omega (arith, at-row-inside .row-inside .ensures .0 _ (at-i .i .given .1), rows-narrow (start .pre) columns.methodName (omega arith)) }
 
 add-owner-2 : tie.Need-add-owner-2
 add-owner-2 c =
     let at-i = c .before in
     let at-row-inside = at-i .before .before in
-    let start = at-row-inside .before .before .before .before in
+    let start = at-row-inside .before .before .before .before .before in
     record { fits = omega (arith, at-row-inside .row-inside .ensures .0 _ (at-i .i .given .1), rows-narrow (start .pre) columns.methodName (omega arith)) }
 
 tell-generic-requires : tie.Need-tell-generic-requires
@@ -50,13 +50,13 @@ returns c = λ blob k m h.
     let at-tell-generic = c .before .before in
     let at-i = at-tell-generic .before .before .before in
     let at-row-inside = at-i .before .before in
-    let start = at-row-inside .before .before .before .before in
+    let start = at-row-inside .before .before .before .before .before in
     method-generic (start .pre) _ blob k m (method-found (at-row-inside .row-inside .ensures .1 _ _ _ (start .pre) _ _ h) (at-i .i .given .1)) _ (at-tell-generic .tell-generic .ensures blob)
 
 returns-2 : tie.Need-returns-2
 returns-2 c = λ blob k m h.
     let at-row-inside = c .before .before in
-    let start = at-row-inside .before .before .before .before in
+    let start = at-row-inside .before .before .before .before .before in
     no-method-generic (start .pre) _ blob k m (method-missed (at-row-inside .row-inside .ensures .1 _ _ _ (start .pre) _ _ h) (c .enum-told .given .1)) _ _ _
 
 pub tell-method-generic-name-spec : {M : Type 1} → statement M

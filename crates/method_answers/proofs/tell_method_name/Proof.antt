@@ -17,7 +17,7 @@ tell-string-requires : tie.Need-tell-string-requires
 tell-string-requires c κs =
     let at-i = c .before .before in
     let at-row-inside = at-i .before .before in
-    let start = at-row-inside .before .before .before .before in
+    let start = at-row-inside .before .before .before .before .before in
     (start .pre, (omega arith, at-row-inside .row-inside .ensures .0 _ (at-i .i .given .1)))
 
 enum-told : tie.Need-enum-told
@@ -31,13 +31,13 @@ returns c = λ blob k m h.
     let at-tell-string = c .before .before in
     let at-i = at-tell-string .before .before .before in
     let at-row-inside = at-i .before .before in
-    let start = at-row-inside .before .before .before .before in
+    let start = at-row-inside .before .before .before .before .before in
     method-name (start .pre) _ blob k m (method-found (at-row-inside .row-inside .ensures .1 _ _ _ (start .pre) _ _ h) (at-i .i .given .1)) (at-tell-string .tell-string .ensures)
 
 returns-2 : tie.Need-returns-2
 returns-2 c = λ blob k m h.
     let at-row-inside = c .before .before in
-    let start = at-row-inside .before .before .before .before in
+    let start = at-row-inside .before .before .before .before .before in
     no-method-name (start .pre) _ blob k m (method-missed (at-row-inside .row-inside .ensures .1 _ _ _ (start .pre) _ _ h) (c .enum-told .given .1)) _ _
 
 pub tell-method-name-spec : {M : Type 1} → statement M

@@ -20,7 +20,7 @@ tell-return-type-requires : tie.Need-tell-return-type-requires
 tell-return-type-requires c κs =
     let at-i = c .before .before in
     let at-row-inside = at-i .before .before in
-    let start = at-row-inside .before .before .before .before .before in
+    let start = at-row-inside .before .before .before .before .before .before in
     (start .pre, omega (arith, at-row-inside .row-inside .ensures .0 _ (at-i .i .given .1), same-rows (start .pre) columns.methodName columns.methodSignature (omega arith) (omega arith) refl))
 
 enum-told : tie.Need-enum-told
@@ -37,14 +37,14 @@ returns c =
     let at-tell-return-type = c .before .before in
     let at-i = at-tell-return-type .before .before .before in
     let at-row-inside = at-i .before .before in
-    let start = at-row-inside .before .before .before .before .before in
+    let start = at-row-inside .before .before .before .before .before .before in
     (λ k m h. method-returns (start .pre) _ _ k m (method-found (at-row-inside .row-inside .ensures .1 _ _ _ (start .pre) _ _ h) (at-i .i .given .1)) (at-tell-return-type .tell-return-type .ensures .0), at-tell-return-type .tell-return-type .ensures .1)
 
 returns-2 : tie.Need-returns-2
 returns-2 c =
     let at-enum-told = c .before in
     let at-row-inside = at-enum-told .before .before in
-    let start = at-row-inside .before .before .before .before .before in
+    let start = at-row-inside .before .before .before .before .before .before in
     (λ k m h. no-method-returns (start .pre) _ _ k m (method-missed (at-row-inside .row-inside .ensures .1 _ _ _ (start .pre) _ _ h) (at-enum-told .enum-told .given .1)) _ _, c .no-signature .ensures _ _)
 
 pub tell-return-type-of-spec : {M : Type 1} → statement M

@@ -37,7 +37,7 @@ enum-known-owner c = search needs
 -- src/lib.rt:402:29
 add-t21 : tie.Need-add-t21
 add-t21 c =
-    let start = c .before .before .before .before .before .before .before .before .before .before .before in
+    let start = c .before .before .before .before .before .before .before .before .before .before .before .before in
     record { fits = omega (arith, start .pre .1, rows-narrow (start .pre .0) columns.methodSignature (omega arith)) }
 
 -- src/lib.rt:406:28
@@ -65,19 +65,19 @@ slice-aggregate-skip-types c = search needs
 -- src/lib.rt:419:32
 add-t26 : tie.Need-add-t26
 add-t26 c =
-    let start = c .before .before .before .before .before .before .before .before .before .before .before .before .before in
+    let start = c .before .before .before .before .before .before .before .before .before .before .before .before .before .before in
     record { fits = omega (arith, start .pre .1, rows-narrow (start .pre .0) columns.methodSignature (omega arith)) }
 
 -- src/lib.rt:419:27
 mul-t27 : tie.Need-mul-t27
 mul-t27 c =
-    let start = c .before .before .before .before .before .before .before .before .before .before .before .before .before in
+    let start = c .before .before .before .before .before .before .before .before .before .before .before .before .before .before in
     record { fits = omega (arith, start .pre .1, rows-narrow (start .pre .0) columns.methodSignature (omega arith)) }
 
 -- src/lib.rt:419:27
 add-t28 : tie.Need-add-t28
 add-t28 c =
-    let start = c .before .before .before .before .before .before .before .before .before .before .before .before .before in
+    let start = c .before .before .before .before .before .before .before .before .before .before .before .before .before .before in
     record { fits = omega (arith, start .pre .1, rows-narrow (start .pre .0) columns.methodSignature (omega arith)) }
 
 -- src/lib.rt:412:17
@@ -87,7 +87,7 @@ skip-types-requires c κs = search needs
 -- src/lib.rt:425:25
 add-t26-2 : tie.Need-add-t26-2
 add-t26-2 c =
-    let start = c .before .before .before .before .before .before .before .before .before .before .before .before .before .before .before in
+    let start = c .before .before .before .before .before .before .before .before .before .before .before .before .before .before .before .before in
     record { fits = omega (arith, start .pre .1, rows-narrow (start .pre .0) columns.methodSignature (omega arith)) }
 
 -- src/lib.rt:429:24
@@ -101,7 +101,7 @@ enum-told c = search needs
 -- src/lib.rt:434:29
 unread-signature-requires : tie.Need-unread-signature-requires
 unread-signature-requires c κs =
-    let start = c .before .before .before .before .before .before .before .before .before in
+    let start = c .before .before .before .before .before .before .before .before .before .before in
     omega (arith, start .pre .1, rows-narrow (start .pre .0) columns.methodSignature (omega arith))
 
 -- src/lib.rt:376:1

@@ -26,7 +26,7 @@ cast-first c = search needs
 returns : tie.Need-returns
 returns c =
     let at-read-column = c .before in
-    let start = at-read-column .before .before .before .before in
+    let start = at-read-column .before .before .before .before .before in
     λ blob. said-missing (name-missing (start .pre .0) _ blob _ (start .pre .1) (at-read-column .read-column .ensures) _ (c .if1 .taken)) (kept-same _ _)
 
 -- src/lib.rt:365:8
@@ -62,7 +62,7 @@ returns-2 c =
     let at-count-rows = at-if2 .before in
     let at-if1 = at-count-rows .before in
     let at-read-column = at-if1 .before in
-    let start = at-read-column .before .before .before .before in
+    let start = at-read-column .before .before .before .before .before in
     λ blob. rw (name-numbered (start .pre .0) (start .args .strings .now) blob (start .args .m) (start .pre .1) (at-read-column .read-column .ensures) (start .args .p) (at-if1 .if1 .left) (omega (arith, at-if2 .if2 .taken, at-count-rows .count-rows .ensures))) (written (wrote-then (at-push .push .ensures) (at-push-decimal .push-decimal .ensures)))
 
 -- src/lib.rt:374:9
@@ -116,7 +116,7 @@ returns-3 c =
     let at-count-rows = at-if2 .before in
     let at-if1 = at-count-rows .before in
     let at-read-column = at-if1 .before in
-    let start = at-read-column .before .before .before .before in
+    let start = at-read-column .before .before .before .before .before in
     λ blob. said-param (start .pre .0) _ blob _ (start .pre .1) (at-read-column .read-column .ensures) _ (at-if1 .if1 .left) (omega (arith, at-if2 .if2 .left, at-count-rows .count-rows .ensures)) (at-read-string .read-string .ensures) (at-start .start .given .1) (at-cut .cut .ensures) (at-push2 .push2 .ensures)
 
 -- src/lib.rt:348:1
@@ -133,7 +133,7 @@ returns-4 c = λ blob.
     let at-count-rows = at-if2 .before in
     let at-if1 = at-count-rows .before in
     let at-read-column = at-if1 .before in
-    let start = at-read-column .before .before .before .before in
+    let start = at-read-column .before .before .before .before .before in
     said-no-param (start .pre .0) _ blob _ (start .pre .1) (at-read-column .read-column .ensures) _ (at-if1 .if1 .left) (omega (arith, at-if2 .if2 .left, at-count-rows .count-rows .ensures)) (at-read-string .read-string .ensures) (at-enum-told .enum-told .given .1) (at-push3 .push3 .ensures)
 
 pub push-param-name-spec : {M : Type 1} → statement M

@@ -49,19 +49,19 @@ enum-known-count c = search needs
 -- src/lib.rt:72:40
 add-t27 : tie.Need-add-t27
 add-t27 c =
-    let start = c .before .before .before .before .before .before .before .before .before .before .before .before .before .before .before .before in
+    let start = c .before .before .before .before .before .before .before .before .before .before .before .before .before .before .before .before .before in
     record { fits = omega (arith, start .pre .1, rows-narrow (start .pre .0) columns.methodSignature (omega arith)) }
 
 -- src/lib.rt:72:35
 mul-t28 : tie.Need-mul-t28
 mul-t28 c =
-    let start = c .before .before .before .before .before .before .before .before .before .before .before .before .before .before .before .before in
+    let start = c .before .before .before .before .before .before .before .before .before .before .before .before .before .before .before .before .before in
     record { fits = omega (arith, start .pre .1, rows-narrow (start .pre .0) columns.methodSignature (omega arith)) }
 
 -- src/lib.rt:72:35
 add-t29 : tie.Need-add-t29
 add-t29 c =
-    let start = c .before .before .before .before .before .before .before .before .before .before .before .before .before .before .before .before in
+    let start = c .before .before .before .before .before .before .before .before .before .before .before .before .before .before .before .before .before in
     record { fits = omega (arith, start .pre .1, rows-narrow (start .pre .0) columns.methodSignature (omega arith)) }
 
 -- src/lib.rt:64:27
@@ -100,7 +100,7 @@ returns c =
     let at-start = at-cut .before .before in
     let at-get-blob = at-start .before .before in
     let at-read-column = at-get-blob .before in
-    let start = at-read-column .before .before .before .before .before in
+    let start = at-read-column .before .before .before .before .before .before in
     let there = inside (start .pre .0) (start .args .strings .now) (start .args .blob .now) (start .args .m) (start .args .class .0) (start .pre .1) (at-read-column .read-column .ensures) (at-get-blob .get-blob .ensures) (at-start .start .given .1) in
     signature-there (start .pre .0) _ _ _ _ (start .pre .1) (at-read-column .read-column .ensures) (at-get-blob .get-blob .ensures) (at-start .start .given .1) (cut-is _ _ _ _ there (at-cut .cut .ensures) .bytes) _ (at-read-method-start .read-method-start .ensures) (at-count .count .given .1) (at-owner-of .owner-of .ensures) (at-parse-sig-type .parse-sig-type .ensures) (at-end .end .given .1)
 
@@ -119,7 +119,7 @@ returns-2 c =
     let at-start = at-cut .before .before in
     let at-get-blob = at-start .before .before in
     let at-read-column = at-get-blob .before in
-    let start = at-read-column .before .before .before .before .before in
+    let start = at-read-column .before .before .before .before .before .before in
     let there = inside (start .pre .0) (start .args .strings .now) (start .args .blob .now) (start .args .m) (start .args .class .0) (start .pre .1) (at-read-column .read-column .ensures) (at-get-blob .get-blob .ensures) (at-start .start .given .1) in
     no-type (start .pre .0) _ _ _ _ (start .pre .1) (at-read-column .read-column .ensures) (at-get-blob .get-blob .ensures) (at-start .start .given .1) (cut-is _ _ _ _ there (at-cut .cut .ensures) .bytes) _ (at-read-method-start .read-method-start .ensures) (at-count .count .given .1) (at-owner-of .owner-of .ensures) (at-parse-sig-type .parse-sig-type .ensures) (c .enum-told .given .1)
 
@@ -132,7 +132,7 @@ returns-3 c =
     let at-start = at-cut .before .before in
     let at-get-blob = at-start .before .before in
     let at-read-column = at-get-blob .before in
-    let start = at-read-column .before .before .before .before .before in
+    let start = at-read-column .before .before .before .before .before .before in
     let there = inside (start .pre .0) (start .args .strings .now) (start .args .blob .now) (start .args .m) (start .args .class .0) (start .pre .1) (at-read-column .read-column .ensures) (at-get-blob .get-blob .ensures) (at-start .start .given .1) in
     no-start (start .pre .0) _ _ _ _ (start .pre .1) (at-read-column .read-column .ensures) (at-get-blob .get-blob .ensures) (at-start .start .given .1) (cut-is _ _ _ _ there (at-cut .cut .ensures) .bytes) _ (at-read-method-start .read-method-start .ensures) _ _ (c .enum-told2 .given .1)
 
@@ -141,7 +141,7 @@ returns-4 : tie.Need-returns-4
 returns-4 c =
     let at-get-blob = c .before .before in
     let at-read-column = at-get-blob .before in
-    let start = at-read-column .before .before .before .before .before in
+    let start = at-read-column .before .before .before .before .before .before in
     no-blob (start .pre .0) _ _ _ _ (start .pre .1) (at-read-column .read-column .ensures) (at-get-blob .get-blob .ensures) _ _ (c .enum-told3 .given .1)
 
 pub read-by-spec : {M : Type 1} → statement M

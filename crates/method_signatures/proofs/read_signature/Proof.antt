@@ -36,7 +36,7 @@ first-reader-requires c κs = search needs
 -- src/lib.rt:167:5
 loop-holds : tie.Need-loop-holds Inv-loop μ-loop
 loop-holds c =
-    let start = c .before .before .before .before .before .before in
+    let start = c .before .before .before .before .before .before .before in
     (kept-same _ _, c .first-reader .ensures (start .args .strings .now) (start .args .blob .now))
 
 -- src/lib.rt:0:0
@@ -70,7 +70,7 @@ returns c =
     let told = made .before .before .before in
     let asked = told .before .before in
     let l = asked .before .before .before .loop in
-    let start = asked .before .before .before .before .before .before .before .before .before .before in
+    let start = asked .before .before .before .before .before .before .before .before .before .before .before in
     let a = start .args in
     let v = viewIn (a .tables .now) (a .layout .now) (a .strings .now) (a .blob .now) in
     let answer = asked .next-reader .ensures (a .strings .now) (a .blob .now) in
@@ -88,7 +88,7 @@ loop-less c =
     let told = made .before .before .before in
     let asked = told .before .before in
     let l = asked .before .before .before .loop in
-    let start = asked .before .before .before .before .before .before .before .before .before .before in
+    let start = asked .before .before .before .before .before .before .before .before .before .before .before in
     let a = start .args in
     let v = viewIn (a .tables .now) (a .layout .now) (a .strings .now) (a .blob .now) in
     let answer = asked .next-reader .ensures (a .strings .now) (a .blob .now) in
@@ -102,7 +102,7 @@ loop-again c =
     let told = made .before .before .before in
     let asked = told .before .before in
     let l = asked .before .before .before .loop in
-    let start = asked .before .before .before .before .before .before .before .before .before .before in
+    let start = asked .before .before .before .before .before .before .before .before .before .before .before in
     let a = start .args in
     let v = viewIn (a .tables .now) (a .layout .now) (a .strings .now) (a .blob .now) in
     let answer = asked .next-reader .ensures (a .strings .now) (a .blob .now) in
@@ -123,7 +123,7 @@ returns-2 : tie.Need-returns-2 Inv-loop μ-loop
 returns-2 c =
     let asked = c .before .before in
     let l = asked .before .before .before .loop in
-    let start = asked .before .before .before .before .before .before .before .before .before .before in
+    let start = asked .before .before .before .before .before .before .before .before .before .before .before in
     let a = start .args in
     let v = viewIn (a .tables .now) (a .layout .now) (a .strings .now) (a .blob .now) in
     let answer = asked .next-reader .ensures (a .strings .now) (a .blob .now) in
@@ -137,7 +137,7 @@ same-length-3 c = search needs
 returns-3 : tie.Need-returns-3 Inv-loop μ-loop
 returns-3 c =
     let l = c .before .before .loop in
-    let start = c .before .before .before .before .before .before .before .before .before in
+    let start = c .before .before .before .before .before .before .before .before .before .before in
     let a = start .args in
     let v = viewIn (a .tables .now) (a .layout .now) (a .strings .now) (a .blob .now) in
     let all = classes-are (start .pre .0) (a .strings .now) (a .blob .now) columns.methodList (omega arith) refl in

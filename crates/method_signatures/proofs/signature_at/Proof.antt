@@ -12,7 +12,7 @@ use Rattle.numbers.proofs.wide.Reads as wide-reads
 -- src/lib.rt:454:24
 add-if1 : tie.Need-add-if1
 add-if1 c =
-    let start = c .before .before .before in
+    let start = c .before .before .before .before in
     record { fits = omega (arith, start .pre .1 .0, rows-narrow (start .pre .0) columns.methodSignature (omega arith)) }
 
 -- src/lib.rt:455:26

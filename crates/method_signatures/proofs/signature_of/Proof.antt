@@ -11,7 +11,7 @@ use Rattle.method_signatures.proofs.find_signature.Reads as find-signat
 -- src/lib.rt:477:24
 add-row : tie.Need-add-row
 add-row c =
-    let start = c .before .before .before in
+    let start = c .before .before .before .before in
     record { fits = omega (arith, start .pre .1 .0, rows-narrow (start .pre .0) columns.methodSignature (omega arith)) }
 
 -- src/lib.rt:478:9

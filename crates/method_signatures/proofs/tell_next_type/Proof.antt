@@ -16,7 +16,7 @@ use Rattle.signatures.proofs.parse_sig_type.Reads as parse-sig-type-reads
 -- src/lib.rt:519:9
 returns : tie.Need-returns
 returns c =
-    let start = c .before .before .before .before .before .before in
+    let start = c .before .before .before .before .before .before .before in
     let k = start .pre .1 .1 in
     (told-past _ _ _ _ _ (k .0) (k .1) (k .2) _ _ (c .if1 .taken), k .0)
 
@@ -31,13 +31,13 @@ add-t20 c = search needs
 -- src/lib.rt:533:19
 mul-t21 : tie.Need-mul-t21
 mul-t21 c =
-    let start = c .before .before .before .before .before .before .before .before in
+    let start = c .before .before .before .before .before .before .before .before .before in
     record { fits = omega (arith, start .pre .1 .0, rows-narrow (start .pre .0) columns.methodSignature (omega arith)) }
 
 -- src/lib.rt:533:19
 add-t22 : tie.Need-add-t22
 add-t22 c =
-    let start = c .before .before .before .before .before .before .before .before in
+    let start = c .before .before .before .before .before .before .before .before .before in
     record { fits = omega (arith, start .pre .1 .0, rows-narrow (start .pre .0) columns.methodSignature (omega arith)) }
 
 -- src/lib.rt:525:11
@@ -72,7 +72,7 @@ returns-2 c =
     let at-parse-sig-type = at-end .before .before .before .before in
     let at-cut = at-parse-sig-type .before .before in
     let at-if1 = at-cut .before in
-    let start = at-if1 .before .before .before .before .before .before in
+    let start = at-if1 .before .before .before .before .before .before .before in
     let k = start .pre .1 .1 in
     let is = cut-is _ _ _ _ (part-inside _ _ _ _ _ (k .0) (k .1) (k .2)) (at-cut .cut .ensures) .bytes in
     told-type _ _ _ _ _ (k .0) (k .1) (k .2) (omega (arith, at-if1 .if1 .left)) is (at-parse-sig-type .parse-sig-type .ensures) (at-end .end .given .1) (c .read-more .ensures)
@@ -89,7 +89,7 @@ returns-3 c =
     let at-parse-sig-type = at-next .before .before .before .before in
     let at-cut = at-parse-sig-type .before .before in
     let at-if1 = at-cut .before in
-    let start = at-if1 .before .before .before .before .before .before in
+    let start = at-if1 .before .before .before .before .before .before .before in
     let k = start .pre .1 .1 in
     let is = cut-is _ _ _ _ (part-inside _ _ _ _ _ (k .0) (k .1) (k .2)) (at-cut .cut .ensures) .bytes in
     told-no-type _ _ _ _ _ (k .0) (k .1) (k .2) (omega (arith, at-if1 .if1 .left)) is (at-parse-sig-type .parse-sig-type .ensures) (at-next .next .given .1) (c .read-more2 .ensures)

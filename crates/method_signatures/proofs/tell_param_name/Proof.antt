@@ -31,7 +31,7 @@ returns c =
 -- src/lib.rt:638:9
 push-param-name-requires : tie.Need-push-param-name-requires
 push-param-name-requires c κs =
-    let start = c .before .before .before .before .before .before .before .before .before in
+    let start = c .before .before .before .before .before .before .before .before .before .before in
     (start .pre .0, omega (arith, start .pre .1 .0, same-rows (start .pre .0) columns.methodSignature columns.paramList (omega arith) (omega arith) refl))
 
 -- src/lib.rt:639:9

@@ -24,7 +24,7 @@ enum-known-owner c = search needs
 -- src/lib.rt:352:25
 add-t20 : tie.Need-add-t20
 add-t20 c =
-    let start = c .before .before .before .before .before .before .before .before .before .before .before in
+    let start = c .before .before .before .before .before .before .before .before .before .before .before .before in
     record { fits = omega (arith, start .pre .1, rows-narrow (start .pre .0) columns.methodSignature (omega arith)) }
 
 -- src/lib.rt:356:24
@@ -38,7 +38,7 @@ enum-told c = search needs
 -- src/lib.rt:366:17
 unread-signature-requires : tie.Need-unread-signature-requires
 unread-signature-requires c κs =
-    let start = c .before .before .before .before .before .before .before .before .before .before in
+    let start = c .before .before .before .before .before .before .before .before .before .before .before in
     omega (arith, start .pre .1, rows-narrow (start .pre .0) columns.methodSignature (omega arith))
 
 -- src/lib.rt:327:1
