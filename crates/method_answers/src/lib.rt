@@ -41,8 +41,8 @@ fn row_inside(layout: &[u32], row: MethodRow) -> MethodRow
     requires { ⌜ columns.size ≤ length (now layout) ⌝ }
     ensures { λ r.
         ⌜ ((i : ℕ) → r ≡ Row i → i < rowsAt (now (layout .entry)) columns.methodName) ×
-        ((t strings blob : List ℕ) → Laid t (now (layout .entry)) → (c m : ℕ) → MethodRowIs (viewIn t (now (layout .entry)) strings blob) c m
-        row → MethodRowIs (viewIn t (now (layout .entry)) strings blob) c m r) ⌝ }
+        ((t strings blob : List ℕ) → Laid t (now (layout .entry)) → (c m : ℕ) → MethodRowIs
+        (viewIn t (now (layout .entry)) strings blob) c m row → MethodRowIs (viewIn t (now (layout .entry)) strings blob) c m r) ⌝ }
 {
     match row {
         MethodRow::Row(i) => {
@@ -59,7 +59,8 @@ fn row_inside(layout: &[u32], row: MethodRow) -> MethodRow
 pub fn method_flags_of(tables: &[u8], layout: &[u32], row: MethodRow) -> Reply
     requires { ⌜ Laid (now tables) (now layout) ⌝ }
     ensures { λ r.
-        ⌜ ((strings blob : List ℕ) (c m : ℕ) → MethodRowIs (viewIn (now (tables .entry)) (now (layout .entry)) strings blob) c m row → Numbered
+        ⌜ ((strings blob : List ℕ) (c m : ℕ) → MethodRowIs
+        (viewIn (now (tables .entry)) (now (layout .entry)) strings blob) c m row → Numbered
         (methodFlags (viewIn (now (tables .entry)) (now (layout .entry)) strings blob) c m) r) ⌝ }
 {
     match row_inside(layout, row) {
@@ -82,7 +83,8 @@ pub fn tell_method_name(
 ) -> Told
     requires { ⌜ Laid (now tables) (now layout) ⌝ }
     ensures { λ r.
-        ⌜ ((blob : List ℕ) (c m : ℕ) → MethodRowIs (viewIn (now (tables .entry)) (now (layout .entry)) (now (strings .entry)) blob) c m row → ToldIs
+        ⌜ ((blob : List ℕ) (c m : ℕ) → MethodRowIs
+        (viewIn (now (tables .entry)) (now (layout .entry)) (now (strings .entry)) blob) c m row → ToldIs
         (methodName (viewIn (now (tables .entry)) (now (layout .entry)) (now (strings .entry)) blob) c m)
         (now (buf .entry)) at (now (buf .exit)) r) ⌝ }
 {
@@ -104,7 +106,8 @@ pub fn tell_method_name(
 pub fn count_method_generics_of(tables: &[u8], layout: &[u32], row: MethodRow) -> Reply
     requires { ⌜ Laid (now tables) (now layout) ⌝ }
     ensures { λ r.
-        ⌜ ((strings blob : List ℕ) (c m : ℕ) → MethodRowIs (viewIn (now (tables .entry)) (now (layout .entry)) strings blob) c m row → Numbered
+        ⌜ ((strings blob : List ℕ) (c m : ℕ) → MethodRowIs
+        (viewIn (now (tables .entry)) (now (layout .entry)) strings blob) c m row → Numbered
         (methodGenericCount (viewIn (now (tables .entry)) (now (layout .entry)) strings blob) c m) r) ⌝ }
 {
     match row_inside(layout, row) {
@@ -125,7 +128,8 @@ pub fn tell_method_generic_name(
 ) -> Told
     requires { ⌜ Laid (now tables) (now layout) ⌝ }
     ensures { λ r.
-        ⌜ ((blob : List ℕ) (c m : ℕ) → MethodRowIs (viewIn (now (tables .entry)) (now (layout .entry)) (now (strings .entry)) blob) c m row → ToldIs
+        ⌜ ((blob : List ℕ) (c m : ℕ) → MethodRowIs
+        (viewIn (now (tables .entry)) (now (layout .entry)) (now (strings .entry)) blob) c m row → ToldIs
         (methodGenericName (viewIn (now (tables .entry)) (now (layout .entry)) (now (strings .entry)) blob) c m g)
         (now (buf .entry)) at (now (buf .exit)) r) ⌝ }
 {

@@ -510,7 +510,8 @@ fn tell_next_type(
 ) -> Typed
     requires { ⌜ Laid (now tables) (now layout) ⌝ }
     requires { ⌜ m < rowsAt (now layout) columns.methodSignature ⌝ }
-    requires { ⌜ KnowsSignature (viewIn (now tables) (now layout) (now strings) (now blob)) (now blob) known × (known .method ≡ m + 1) × (known .read ≡ p) ⌝ }
+    requires { ⌜ KnowsSignature (viewIn (now tables) (now layout) (now strings) (now blob)) (now blob) known × (known .method ≡ m + 1) ×
+        (known .read ≡ p) ⌝ }
     ensures { λ r. let v = viewIn (now (tables .entry)) (now (layout .entry)) (now (strings .entry)) (now (blob .entry)) in
         ⌜ ToldIs (item (method v m .parameters) p ⟫ (λ k. nameOr5 (k .type))) (now (buf .entry)) at (now (buf .exit)) (r .told) ×
         KnowsSignature v (now (blob .entry)) (r .signature) ⌝ }
