@@ -7,12 +7,14 @@ use native.Mathlib.Omega.{arith}
 use lib.ListN.{length, getElem?}
 use Rattle.buffers.specs.Texts.{Text}
 use Rattle.buffers.specs.Writes.{Said}
-use Rattle.buffers.specs.Replies.{refused, value, number, held, Named}
+use Rattle.buffers.specs.Replies.{refused, value, number}
+use Rattle.buffers.specs.Telling.{ToldIs, name, no-row}
+use Rattle.buffers.specs.declared.Told.{Told}
+use Rattle.buffers.specs.declared.Told.the-variants.{Name, NoRow}
 use Rattle.buffers.specs.declared.Refusal.the-variants.{NoSuchRow}
-use Rattle.buffers.specs.declared.Reply.{Reply}
 use Rattle.buffers.specs.declared.Reply.the-variants.{Is, No}
-use Rattle.buffers.proofs.Writing.{said-some, said-none}
-use Rattle.buffers.proofs.Replies.{named-text, named-length}
+use Rattle.buffers.proofs.Writing.{kept-same, said-some, said-none}
+use Rattle.buffers.proofs.Telling.{told-same}
 use Rattle.classes.specs.declared.TypeDefRow.{TypeDefRow}
 use Rattle.record.specs.View.{View}
 use Rattle.record.specs.Names.{baseTypes}
@@ -22,13 +24,13 @@ use Rattle.rows.specs.Columns as columns
 use Rattle.rows.specs.Layout.{Laid, rowsAt, viewIn}
 use Rattle.places.proofs.Laws.{listed, unlisted}
 
--- A text that may be missing, which was written from the buffer's start, answers a call that says 4 where it is missing.
-module _ {b b₁ b₂ : List ℕ} {r : Reply} {o : Option Text} where
-  named-there : {at : ℕ} → Said b 0 b₁ o (some at) → Named (held b₁ at) b₁ r b₂ → Named (orNoRow o) b r b₂
-  named-there s n = let there = said-some s in rw (there .is) (named-text (there .wrote) n)
+-- A text that may be missing, as the answer of a call that says 4 where it is missing.
+module _ {o : Option Text} {b b′ : List ℕ} {at : ℕ} where
+  pub told-there : {at′ : ℕ} → Said b at b′ o (some at′) → ToldIs (orNoRow o) b at b′ (Name at′)
+  told-there s = let there = said-some s in name (there .text) (ap orNoRow (there .is)) (there .wrote)
 
-  named-gone : Said b 0 b₁ o none → Named (refused (number NoSuchRow)) b₁ r b₂ → Named (orNoRow o) b r b₂
-  named-gone s n = let gone = said-none s in rw (gone .0) (named-length (gone .1 .long) n)
+  pub told-gone : Said b at b′ o none → ToldIs (orNoRow o) b at b′ NoRow
+  told-gone s = let gone = said-none s in no-row (ap orNoRow (gone .0)) (gone .1)
 
 module _ {t l : List ℕ} (laid : Laid t l) (strings blob : List ℕ) (c : ℕ) where
   abbrev v : View
@@ -53,14 +55,9 @@ module _ {t l : List ℕ} (laid : Laid t l) (strings blob : List ℕ) (c : ℕ) 
       unfolding baseName class
       base-is = ap (λ a. a ⟫ (λ k. item (k .bases) n)) is ∙ ap (λ (k : ℕ). orNoRow (getElem? (baseTypes v k) n)) (sym number-of)
 
-      module _ {b b₁ b₂ : List ℕ} {r : Reply} where
-        pub class-base : {end : ℕ} → Said b 0 b₁ (getElem? (baseTypes v (row .0 - 2)) n) (some end) → Named (held b₁ end) b₁ r b₂
-            → Named (baseName v c n) b r b₂
-        class-base s named = rw base-is (named-there s named)
-
-        pub class-no-base : Said b 0 b₁ (getElem? (baseTypes v (row .0 - 2)) n) none → Named (refused (number NoSuchRow)) b₁ r b₂
-            → Named (baseName v c n) b r b₂
-        class-no-base s named = rw base-is (named-gone s named)
+      pub class-base : {b b′ : List ℕ} {place : ℕ} {r : Told} → ToldIs (orNoRow (getElem? (baseTypes v (row .0 - 2)) n)) b place b′ r
+          → ToldIs (baseName v c n) b place b′ r
+      class-base told = told-same base-is told
 
   -- A class that is not.
   module _ (h : rowsAt l columns.typeName < c + 2) where
@@ -71,6 +68,6 @@ module _ {t l : List ℕ} (laid : Laid t l) (strings blob : List ℕ) (c : ℕ) 
     unfolding baseCount
     no-class-bases = sym (ap (λ a. a ⟫ (λ k. value (length (k .bases)))) isn't)
 
-    pub no-class-base : (n : ℕ) {b b′ : List ℕ} {r : Reply} → Named (refused (number NoSuchRow)) b r b′ → Named (baseName v c n) b r b′
+    pub no-class-base : (n : ℕ) (b : List ℕ) (place : ℕ) → ToldIs (baseName v c n) b place b NoRow
     unfolding baseName
-    no-class-base n named = rw (ap (λ a. a ⟫ (λ k. item (k .bases) n)) isn't) named
+    no-class-base n b place = no-row (ap (λ a. a ⟫ (λ k. item (k .bases) n)) isn't) (kept-same b place)
