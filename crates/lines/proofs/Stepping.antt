@@ -1,6 +1,6 @@
 -- From what the code does at a place to a step of the definition: one law for each place. Assumes nothing.
-use mathlib.Core.Path.{_≡_, _∙_, ap, subst}
-use mathlib.Core.Bool.{cond}
+use mathlib.Core.Path.{_≡_, refl, _∙_, ap}
+use mathlib.Core.Bool.{Bool, true, false, cond}
 use mathlib.Core.List.{List, []}
 use Prim.Native.Nat.{ℕ}
 use Rattle.buffers.specs.Texts.{Text, q}
@@ -11,7 +11,7 @@ use Rattle.buffers.specs.declared.Reply.{Reply}
 use Rattle.buffers.specs.declared.Reply.the-variants.{Is, No}
 use Rattle.header.specs.declared.Options.{Options}
 use Rattle.record.specs.View.{View, viewOf, view}
-use Rattle.record.specs.Answers.{Numbered, classCount, classFlags, className, genericName, baseName, methodName, methodFlags, methodGenericName, returnType, parameterType, parameterName}
+use Rattle.record.specs.Answers.{classCount, classFlags, className, genericName, baseName, methodName, methodFlags, methodGenericName, returnType, parameterType, parameterName}
 use Rattle.tables.specs.Extents.{walkSays, walkOf}
 use Rattle.tables.specs.declared.Extents.{Extents}
 use Rattle.lines.specs.Lines.{numberLine, refusedLine, answerLine, nameLine, hasLine}
@@ -20,16 +20,24 @@ use Rattle.lines.specs.declared.Place.the-variants.{Stop, Classes, Class
 use Rattle.lines.specs.declared.Cursor.{Cursor}
 use Rattle.lines.specs.declared.Step.{Step}
 
--- The cursors that the code made, and the cursors of the definition: after a name, and after a number by what the call's reply says.
+-- The cursors that the code made, and the cursors of the definition: after a name, and after a number.
 to-name : (key : Text) (a : Answer Text) {x y x′ y′ : Cursor} {o o′ : List ℕ} {at : ℕ} {s : Step}
     → x ≡ x′ → y ≡ y′ → Went (nameLine key a) (cond (hasLine a) x y) o at o′ s → Went (nameLine key a) (cond (hasLine a) x′ y′) o at o′ s
 to-name key a {y = y} {x′ = x′} e f w =
     record { wrote = w .wrote; goes = w .goes ∙ ap (λ (x : Cursor). cond (hasLine a) x y) e ∙ ap (cond (hasLine a) x′) f }
 
-to-number : (key : Text) (a : Answer ℕ) (r : Reply) {x x′ : Cursor} {o o′ : List ℕ} {at : ℕ} {s : Step}
-    → Numbered a r → x ≡ x′ → Went (answerLine key (replySays r)) x o at o′ s → Went (answerLine key a) x′ o at o′ s
-to-number key a r {x′ = x′} {o} {o′} {at} {s} e f w =
-    subst (λ (t : Answer ℕ). Went (answerLine key t) x′ o at o′ s) e (record { wrote = w .wrote; goes = w .goes ∙ f })
+to-number : (key : Text) (a : Answer ℕ) {x x′ : Cursor} {o o′ : List ℕ} {at : ℕ} {s : Step}
+    → x ≡ x′ → Went (answerLine key a) x o at o′ s → Went (answerLine key a) x′ o at o′ s
+to-number key a f w = record { wrote = w .wrote; goes = w .goes ∙ f }
+
+-- After a name behind which it goes on alike, whether there is a line or not.
+either-way : (b : Bool) {x : Cursor} → cond b x x ≡ x
+either-way true = refl
+either-way false = refl
+
+to-either : (key : Text) (a : Answer Text) {x x′ : Cursor} {o o′ : List ℕ} {at : ℕ} {s : Step}
+    → x ≡ x′ → Went (nameLine key a) (cond (hasLine a) x x) o at o′ s → Went (nameLine key a) x′ o at o′ s
+to-either key a f w = record { wrote = w .wrote; goes = w .goes ∙ either-way (hasLine a) ∙ f }
 
 -- A cursor at the next number.
 next-is : (make : ℕ → Cursor) {n k : ℕ} {x : Cursor} → k ≡ n → x ≡ make k → x ≡ make n
@@ -55,10 +63,10 @@ stop-goes options tables strings blob c m i w e g =
 
 -- The other places.
 module _ (v : View) (c m i : ℕ) {o o′ : List ℕ} {at : ℕ} {s : Step} where
-  pub classes-goes : (r : Reply) {x : Cursor} → Numbered (classCount v) r → x ≡ cursor Class 0 0 0
-      → Went (answerLine (q "classes=") (replySays r)) x o at o′ s → Stepped v (cursor Classes c m i) o at o′ s
+  pub classes-goes : {x : Cursor} → x ≡ cursor Class 0 0 0 → Went (answerLine (q "classes=") (classCount v)) x o at o′ s
+      → Stepped v (cursor Classes c m i) o at o′ s
   unfolding lineAt nextAt
-  classes-goes r e f w = to-number (q "classes=") (classCount v) r e f w
+  classes-goes f w = to-number (q "classes=") (classCount v) f w
 
   pub class-goes : {x y : Cursor} → x ≡ cursor Flags c 0 0 → y ≡ done
       → Went (nameLine (q "class=") (className v c)) (cond (hasLine (className v c)) x y) o at o′ s
@@ -66,10 +74,10 @@ module _ (v : View) (c m i : ℕ) {o o′ : List ℕ} {at : ℕ} {s : Step} wher
   unfolding lineAt nextAt
   class-goes e f w = to-name (q "class=") (className v c) e f w
 
-  pub flags-goes : (r : Reply) {x : Cursor} → Numbered (classFlags v c) r → x ≡ cursor Generic c 0 0
-      → Went (answerLine (q "flags=") (replySays r)) x o at o′ s → Stepped v (cursor Flags c m i) o at o′ s
+  pub flags-goes : {x : Cursor} → x ≡ cursor Generic c 0 0 → Went (answerLine (q "flags=") (classFlags v c)) x o at o′ s
+      → Stepped v (cursor Flags c m i) o at o′ s
   unfolding lineAt nextAt
-  flags-goes r e f w = to-number (q "flags=") (classFlags v c) r e f w
+  flags-goes f w = to-number (q "flags=") (classFlags v c) f w
 
   pub generic-goes : {k : ℕ} {x y : Cursor} → k ≡ nextNumber i → x ≡ cursor Generic c 0 k → y ≡ cursor Base c 0 0
       → Went (nameLine (q "generic=") (genericName v c i)) (cond (hasLine (genericName v c i)) x y) o at o′ s
@@ -89,10 +97,10 @@ module _ (v : View) (c m i : ℕ) {o o′ : List ℕ} {at : ℕ} {s : Step} wher
   unfolding lineAt nextAt
   method-goes e g f w = to-name (q "method=") (methodName v c m) e (next-is (λ (k : ℕ). cursor Class k 0 0) g f) w
 
-  pub method-flags-goes : (r : Reply) {x : Cursor} → Numbered (methodFlags v c m) r → x ≡ cursor MethodGeneric c m 0
-      → Went (answerLine (q "mflags=") (replySays r)) x o at o′ s → Stepped v (cursor MethodFlags c m i) o at o′ s
+  pub method-flags-goes : {x : Cursor} → x ≡ cursor MethodGeneric c m 0 → Went (answerLine (q "mflags=") (methodFlags v c m)) x o at o′ s
+      → Stepped v (cursor MethodFlags c m i) o at o′ s
   unfolding lineAt nextAt
-  method-flags-goes r e f w = to-number (q "mflags=") (methodFlags v c m) r e f w
+  method-flags-goes f w = to-number (q "mflags=") (methodFlags v c m) f w
 
   pub method-generic-goes : {k : ℕ} {x y : Cursor} → k ≡ nextNumber i → x ≡ cursor MethodGeneric c m k → y ≡ cursor Returns c m 0
       → Went (nameLine (q "mgeneric=") (methodGenericName v c m i)) (cond (hasLine (methodGenericName v c m i)) x y) o at o′ s
@@ -100,10 +108,11 @@ module _ (v : View) (c m i : ℕ) {o o′ : List ℕ} {at : ℕ} {s : Step} wher
   unfolding lineAt nextAt
   method-generic-goes g e f w = to-name (q "mgeneric=") (methodGenericName v c m i) (next-is (cursor MethodGeneric c m) g e) f w
 
-  pub returns-goes : s .next ≡ cursor ParamType c m 0 → Wrote o at (nameLine (q "returns=") (returnType v c m)) o′ (s .at)
+  pub returns-goes : {x : Cursor} → x ≡ cursor ParamType c m 0
+      → Went (nameLine (q "returns=") (returnType v c m)) (cond (hasLine (returnType v c m)) x x) o at o′ s
       → Stepped v (cursor Returns c m i) o at o′ s
   unfolding lineAt nextAt
-  returns-goes e w = record { wrote = w; goes = e }
+  returns-goes e w = to-either (q "returns=") (returnType v c m) e w
 
   pub param-type-goes : {k : ℕ} {x y : Cursor} → x ≡ cursor ParamName c m i → k ≡ nextNumber m → y ≡ cursor Method c k 0
       → Went (nameLine (q "ptype=") (parameterType v c m i)) (cond (hasLine (parameterType v c m i)) x y) o at o′ s
@@ -111,10 +120,11 @@ module _ (v : View) (c m i : ℕ) {o o′ : List ℕ} {at : ℕ} {s : Step} wher
   unfolding lineAt nextAt
   param-type-goes e g f w = to-name (q "ptype=") (parameterType v c m i) e (next-is (λ (k : ℕ). cursor Method c k 0) g f) w
 
-  pub param-name-goes : {k : ℕ} → k ≡ nextNumber i → s .next ≡ cursor ParamType c m k
-      → Wrote o at (nameLine (q "pname=") (parameterName v c m i)) o′ (s .at) → Stepped v (cursor ParamName c m i) o at o′ s
+  pub param-name-goes : {k : ℕ} {x : Cursor} → k ≡ nextNumber i → x ≡ cursor ParamType c m k
+      → Went (nameLine (q "pname=") (parameterName v c m i)) (cond (hasLine (parameterName v c m i)) x x) o at o′ s
+      → Stepped v (cursor ParamName c m i) o at o′ s
   unfolding lineAt nextAt
-  param-name-goes g e w = record { wrote = w; goes = next-is (cursor ParamType c m) g e }
+  param-name-goes g e w = to-either (q "pname=") (parameterName v c m i) (next-is (cursor ParamType c m) g e) w
 
   pub done-goes : s .next ≡ done → Wrote o at [] o′ (s .at) → Stepped v (cursor Done c m i) o at o′ s
   unfolding lineAt nextAt

@@ -1,12 +1,22 @@
 // The listing, piece by piece, for the programs that print or compare it: a step from line to line, a buffer filled with whole lines,
 // and both over a program's input.
+use answer_lines::Onward;
+use answer_lines::name_line;
+use answer_lines::number_line;
+use answers::Known;
 use buffers::Refusal;
+use buffers::Reply;
 use bundle::Bundle;
+use classes::ClassNumber;
 use header::Opened;
 use header::Options;
 use lines::Cursor;
 use lines::Place;
 use lines::Step;
+use lines::cursor_at;
+use lines::next_number;
+use questions::NameQuestion;
+use questions::NumberQuestion;
 use rows::columns;
 ghost use mathlib.Core.Path.{_≡_};
 ghost use mathlib.Core.List.{List};
@@ -17,13 +27,11 @@ ghost use Rattle.header.specs.declared.Options.{Options as Opts};
 ghost use Rattle.header.specs.declared.Opened.the-variants.{Refused};
 ghost use Rattle.record.specs.View.{View, view};
 ghost use Rattle.rows.specs.Layout.{Laid, viewIn};
-ghost use Rattle.lines.specs.Lines.{longest};
-ghost use Rattle.lines.specs.Cursors.{cursor, Stepped};
-ghost use Rattle.lines.specs.declared.Place.the-variants.{Done};
+ghost use Rattle.buffers.specs.Replies.{replySays};
+ghost use Rattle.answers.specs.Known.{Knows};
+ghost use Rattle.lines.specs.Cursors.{cursor, stopLine, afterStop, Went, Stepped};
+ghost use Rattle.lines.specs.declared.Place.the-variants.{Stop, Done};
 ghost use Rattle.listing_text.specs.Filling.{isDone, pieceOf, Piece, inputPiece, Pieced, Filled};
-
-// A longer name is not shown, but `!`: so much room is lent for each, one after the other.
-const LONGEST: usize = 4096;
 
 // Whether a listing is at its end.
 pub fn is_done(c: Cursor) -> bool
@@ -43,7 +51,41 @@ fn done_line(out: &mut [u8], at: usize) -> Step
     }
 }
 
-// One step over an opened stream: the line at a cursor is appended, if it has one, and the next cursor handed out.
+// Where the walk was left; a refusal ends the listing.
+fn stop_step(out: &mut [u8], at: usize, reply: Reply) -> Step
+    ensures { λ r. ⌜ Went (stopLine (replySays reply)) (afterStop (replySays reply)) (now (out .entry)) at (now (out .exit)) r ⌝ }
+{
+    match reply {
+        Reply::Is(stop) => {
+            let end = lines::push_number(out, at, b"stop=", stop);
+            Step {
+                next: cursor_at(Place::Classes, ClassNumber(0), 0, 0),
+                at: end,
+            }
+        }
+        Reply::No(why) => lines::push_refused(out, at, why),
+    }
+}
+
+// The first line.
+fn stop_line(
+    tables: &[u8],
+    strings: &[u8],
+    blob: &[u8],
+    options: Options,
+    out: &mut [u8],
+    at: usize,
+) -> Step
+    ensures { λ r. let v = view options (now (tables .entry)) (now (strings .entry)) (now (blob .entry)) in
+        ⌜ ((c m i : ℕ) → Stepped v (cursor Stop c m i) (now (out .entry)) at (now (out .exit)) r) ⌝ }
+{
+    let walk = walks::walk_with(tables, options);
+    let answer = walk.answer;
+    stop_step(out, at, answer)
+}
+
+// One step over an opened stream: the line at a cursor is appended, if it has one, and the next cursor handed out. Each place is a line of
+// this table: its key, its question, and where it goes on.
 fn next_line(
     tables: &[u8],
     strings: &[u8],
@@ -51,115 +93,226 @@ fn next_line(
     options: Options,
     layout: &[u32],
     c: Cursor,
-    name: &mut [u8],
+    known: Known,
     out: &mut [u8],
     at: usize,
-) -> Step
+) -> Onward
     requires { ⌜ Laid (now tables) (now layout) ⌝ }
     requires { ⌜ ((s b : List ℕ) → viewIn (now tables) (now layout) s b ≡ view options (now tables) s b) ⌝ }
-    requires { ⌜ length (now name) ≡ longest ⌝ }
+    requires { ⌜ Knows (viewIn (now tables) (now layout) (now strings) (now blob)) (now blob) known ⌝ }
     ensures { λ r. let v = view options (now (tables .entry)) (now (strings .entry)) (now (blob .entry)) in
-        ⌜ Stepped v c (now (out .entry)) at (now (out .exit)) r ⌝ }
+        ⌜ Stepped v c (now (out .entry)) at (now (out .exit)) (r .step) × Knows
+        (viewIn (now (tables .entry)) (now (layout .entry)) (now (strings .entry)) (now (blob .entry))) (now (blob .entry)) (r .known) ⌝ }
 {
     let place = c.place;
     let class = c.class;
     let m = c.method;
     let i = c.i;
     match place {
-        Place::Stop => class_lines::stop_line(tables, strings, blob, options, out, at),
-        Place::Classes => class_lines::classes_line(tables, strings, blob, layout, out, at),
-        Place::Class => class_lines::class_line(
+        Place::Stop => {
+            let step = stop_line(tables, strings, blob, options, out, at);
+            Onward { step, known }
+        }
+        Place::Classes => number_line(
+            out,
+            at,
             tables,
             strings,
             blob,
             layout,
-            class,
-            name,
+            b"classes=",
+            NumberQuestion::ClassCount,
+            cursor_at(Place::Class, ClassNumber(0), 0, 0),
+            known,
+        ),
+        Place::Class => name_line(
             out,
             at,
-        ),
-        Place::Flags => class_lines::flags_line(tables, strings, blob, layout, class, out, at),
-        Place::Generic => {
-            class_lines::generic_line(tables, strings, blob, layout, class, i, name, out, at)
-        }
-        Place::Base => class_lines::base_line(
             tables,
             strings,
             blob,
             layout,
-            class,
-            i,
-            name,
+            b"class=",
+            NameQuestion::ClassName(class),
+            cursor_at(Place::Flags, class, 0, 0),
+            lines::done_cursor(),
+            known,
+        ),
+        Place::Flags => number_line(
             out,
             at,
+            tables,
+            strings,
+            blob,
+            layout,
+            b"flags=",
+            NumberQuestion::ClassFlags(class),
+            cursor_at(Place::Generic, class, 0, 0),
+            known,
         ),
-        Place::Method => {
-            method_lines::method_line(tables, strings, blob, layout, class, m, name, out, at)
-        }
-        Place::MethodFlags => {
-            method_lines::method_flags_line(tables, strings, blob, layout, class, m, out, at)
-        }
-        Place::MethodGeneric => {
-            method_lines::method_generic_line(
+        Place::Generic => name_line(
+            out,
+            at,
+            tables,
+            strings,
+            blob,
+            layout,
+            b"generic=",
+            NameQuestion::GenericName(class, i),
+            cursor_at(Place::Generic, class, 0, next_number(i)),
+            cursor_at(Place::Base, class, 0, 0),
+            known,
+        ),
+        Place::Base => name_line(
+            out,
+            at,
+            tables,
+            strings,
+            blob,
+            layout,
+            b"base=",
+            NameQuestion::BaseName(class, i),
+            cursor_at(Place::Base, class, 0, next_number(i)),
+            cursor_at(Place::Method, class, 0, 0),
+            known,
+        ),
+        Place::Method => name_line(
+            out,
+            at,
+            tables,
+            strings,
+            blob,
+            layout,
+            b"method=",
+            NameQuestion::MethodName(class, m),
+            cursor_at(Place::MethodFlags, class, m, 0),
+            cursor_at(Place::Class, lines::next_class(class), 0, 0),
+            known,
+        ),
+        Place::MethodFlags => number_line(
+            out,
+            at,
+            tables,
+            strings,
+            blob,
+            layout,
+            b"mflags=",
+            NumberQuestion::MethodFlags(class, m),
+            cursor_at(Place::MethodGeneric, class, m, 0),
+            known,
+        ),
+        Place::MethodGeneric => name_line(
+            out,
+            at,
+            tables,
+            strings,
+            blob,
+            layout,
+            b"mgeneric=",
+            NameQuestion::MethodGenericName(class, m, i),
+            cursor_at(Place::MethodGeneric, class, m, next_number(i)),
+            cursor_at(Place::Returns, class, m, 0),
+            known,
+        ),
+        Place::Returns => {
+            let next = cursor_at(Place::ParamType, class, m, 0);
+            name_line(
+                out,
+                at,
                 tables,
                 strings,
                 blob,
                 layout,
-                class,
-                m,
-                i,
-                name,
-                out,
-                at,
+                b"returns=",
+                NameQuestion::ReturnType(class, m),
+                next,
+                next,
+                known,
             )
         }
-        Place::Returns => {
-            method_lines::returns_line(tables, strings, blob, layout, class, m, name, out, at)
-        }
-        Place::ParamType => {
-            method_lines::param_type_line(tables, strings, blob, layout, class, m, i, name, out, at)
-        }
+        Place::ParamType => name_line(
+            out,
+            at,
+            tables,
+            strings,
+            blob,
+            layout,
+            b"ptype=",
+            NameQuestion::ParamType(class, m, i),
+            cursor_at(Place::ParamName, class, m, i),
+            cursor_at(Place::Method, class, next_number(m), 0),
+            known,
+        ),
         Place::ParamName => {
-            method_lines::param_name_line(tables, strings, blob, layout, class, m, i, name, out, at)
+            let next = cursor_at(Place::ParamType, class, m, next_number(i));
+            name_line(
+                out,
+                at,
+                tables,
+                strings,
+                blob,
+                layout,
+                b"pname=",
+                NameQuestion::ParamName(class, m, i),
+                next,
+                next,
+                known,
+            )
         }
-        Place::Done => done_line(out, at),
+        Place::Done => {
+            let step = done_line(out, at);
+            Onward { step, known }
+        }
     }
 }
 
-// Steps until the listing is done or a line does not fit into the buffer.
-fn fill_opened(
+// Steps until the listing is done or a line does not fit into the buffer. Whoever asks for the next piece hands on what is known.
+pub fn fill_opened(
     tables: &[u8],
     strings: &[u8],
     blob: &[u8],
     options: Options,
     layout: &[u32],
     from: Cursor,
-    name: &mut [u8],
+    known: Known,
     out: &mut [u8],
-) -> Step
+) -> Onward
     requires { ⌜ Laid (now tables) (now layout) ⌝ }
     requires { ⌜ ((s b : List ℕ) → viewIn (now tables) (now layout) s b ≡ view options (now tables) s b) ⌝ }
-    requires { ⌜ length (now name) ≡ longest ⌝ }
+    requires { ⌜ Knows (viewIn (now tables) (now layout) (now strings) (now blob)) (now blob) known ⌝ }
     ensures { λ r. let v = view options (now (tables .entry)) (now (strings .entry)) (now (blob .entry)) in
-        ⌜ Pieced (pieceOf v (length (now (out .entry))) from) (now (out .entry)) (now (out .exit)) r ⌝ }
+        ⌜ Pieced (pieceOf v (length (now (out .entry))) from) (now (out .entry)) (now (out .exit)) (r .step) × Knows
+        (viewIn (now (tables .entry)) (now (layout .entry)) (now (strings .entry)) (now (blob .entry))) (now (blob .entry)) (r .known) ⌝ }
 {
     let mut c = from;
+    let mut k = known;
     let mut at = 0;
     let mut steps: u32 = 65_536;
     while 0 < steps {
         if is_done(c) {
-            return Step { next: c, at };
+            return Onward {
+                step: Step { next: c, at },
+                known: k,
+            };
         }
-        let s = next_line(tables, strings, blob, options, layout, c, name, out, at);
-        let end = s.at;
+        let on = next_line(tables, strings, blob, options, layout, c, k, out, at);
+        let step = on.step;
+        let end = step.at;
         if out.len() < end {
-            return Step { next: c, at };
+            return Onward {
+                step: Step { next: c, at },
+                known: k,
+            };
         }
-        c = s.next;
+        c = step.next;
+        k = on.known;
         at = end;
         steps -= 1;
     }
-    Step { next: c, at }
+    Onward {
+        step: Step { next: c, at },
+        known: k,
+    }
 }
 
 // A stream that is refused has one line, at the first place.
@@ -215,17 +368,17 @@ pub fn fill(
         }
         Opened::Ready => {
             marks::mark_columns(tables, &mut layout);
-            let mut name = [0u8; LONGEST];
-            let s = fill_opened(
+            let on = fill_opened(
                 tables,
                 strings,
                 blob,
                 options,
                 &layout,
                 from,
-                &mut name,
+                answers::nothing_known(),
                 out,
             );
+            let s = on.step;
             end_piece(s, out)
         }
     }
