@@ -23,7 +23,7 @@ wide-requires c κs = search needs
 -- src/lib.rt:90:9
 read-column-requires : tie.Need-read-column-requires
 read-column-requires c κs =
-    let start = c .before .before .before in
+    let start = c .before .before .before .before in
     (start .pre .0, (omega arith, omega (arith, same-enclosing (start .pre .0), c .wide .ensures .0, start .pre .1)))
 
 -- src/lib.rt:78:1

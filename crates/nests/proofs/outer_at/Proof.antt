@@ -37,7 +37,7 @@ shared-slice-read-linked c = search needs
 -- src/lib.rt:125:13
 linked-requires : tie.Need-linked-requires
 linked-requires c κs =
-    let start = c .before .before .before .before .before .before .before in
+    let start = c .before .before .before .before .before .before .before .before in
     let k = start .pre .1 in
     let h = link-at (k .0) (k .1 .0) (k .1 .1) (c .before .before .before .wide .ensures .0) (c .before .before .before .before .count-rows .ensures) (omega (arith, c .before .before .before .before .count-rows .ensures)) in
     (start .pre .0, omega (arith, h .within, k .1 .0))
@@ -45,7 +45,7 @@ linked-requires c κs =
 -- src/lib.rt:125:13
 returns : tie.Need-returns
 returns c =
-    let start = c .before .before .before .before .before .before .before .before in
+    let start = c .before .before .before .before .before .before .before .before .before in
     let k = start .pre .1 in
     c .linked .ensures _ _ (link-at (k .0) (k .1 .0) (k .1 .1) (c .before .before .before .before .wide .ensures .0) (c .before .before .before .before .before .count-rows .ensures) (omega (arith, c .before .before .before .before .before .count-rows .ensures)))
 

@@ -33,14 +33,14 @@ shared-slice-read-linked c = search needs
 -- src/lib.rt:106:13
 linked-requires : tie.Need-linked-requires
 linked-requires c κs =
-    let start = c .before .before .before .before .before .before .before in
+    let start = c .before .before .before .before .before .before .before .before in
     let h = head-at (start .pre .1) (c .before .before .before .wide .ensures .0) (omega (arith, c .before .before .before .before .count-rows .ensures)) in
     (start .pre .0, h .within)
 
 -- src/lib.rt:106:13
 returns : tie.Need-returns
 returns c =
-    let start = c .before .before .before .before .before .before .before .before in
+    let start = c .before .before .before .before .before .before .before .before .before in
     c .linked .ensures _ _ (head-at (start .pre .1) (c .before .before .before .before .wide .ensures .0) (omega (arith, c .before .before .before .before .before .count-rows .ensures)))
 
 -- src/lib.rt:109:5
