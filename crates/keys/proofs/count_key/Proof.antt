@@ -1,89 +1,60 @@
-use mathlib.Core.Path.{_≡_}
-use Prim.Native.Nat.{_-_, _≤_}
 use native.Mathlib.Omega.{arith}
+use Rattle.rows.specs.Columns as columns
+use Rattle.keys.proofs.Buckets.{asks-memory, by-owner, by-class}
 use borrow.Author.Needs.{needs}
-use Rattle.rows.specs.Layout.{rowsAt, cell}
-use Rattle.rows.specs.Held.{keyed}
-use Rattle.keys.proofs.Laws.{none-seen, all-seen, key-met, key-passed}
 use Rattle.keys.proofs.count_key.Statement.{statement}
 use Rattle.keys.proofs.count_key.Tie as tie
 use Rattle.keys.proofs.count_key.Reads as reads
 use Rattle.keys.proofs.count_key.Lts as lts
-use Rattle.keys.proofs.key_rows.Reads as key-rows-reads
-use Rattle.rows.proofs.read_column.Reads as read-column-reads
+use Rattle.keys.proofs.count_scanned.Reads as count-scanned-reads
+use Rattle.keys.proofs.count_sorted.Reads as count-sorted-reads
+use Rattle.rows.proofs.memory_at.Reads as memory-at-reads
 
-abbrev Inv-loop : tie.InvT-loop
-Inv-loop tables layout column key end i₀ seen₀ i seen = (i ≤ end) × (end ≤ rowsAt layout column) × (seen ≤ i) × (seen ≡ keyed (cell tables layout column) key i)
+-- src/lib.rt:107:13
+memory-at-requires : tie.Need-memory-at-requires
+memory-at-requires c κs = asks-memory (c .before .before .before .pre .0) columns.byOwner (omega arith)
 
-abbrev μ-loop : tie.MeasureT-loop
-μ-loop tables layout column key end i₀ seen₀ i seen = end - i
+-- src/lib.rt:108:9
+count-sorted-requires : tie.Need-count-sorted-requires
+count-sorted-requires c κs =
+    let start = c .before .before .before .before in
+    (start .pre .0, (start .pre .1, by-owner (start .pre .0) (c .before .if1 .taken) (c .memory-at .ensures)))
 
--- src/lib.rt:63:9
-key-rows-requires : tie.Need-key-rows-requires Inv-loop μ-loop
-key-rows-requires c κs = search needs
+-- src/lib.rt:108:9
+returns : tie.Need-returns
+returns c = search needs
 
--- src/lib.rt:67:5
-loop-holds : tie.Need-loop-holds Inv-loop μ-loop
-loop-holds c =
-    let o = c .key-rows .ensures in
-    (o .order, o .within, omega arith, none-seen _ _ _ o)
+-- src/lib.rt:111:13
+memory-at-requires-2 : tie.Need-memory-at-requires-2
+memory-at-requires-2 c κs = asks-memory (c .before .before .before .before .pre .0) columns.byClass (omega arith)
 
--- src/lib.rt:68:13
-read-column-requires : tie.Need-read-column-requires Inv-loop μ-loop
-read-column-requires c κs = search needs
+-- src/lib.rt:112:9
+count-sorted-requires-2 : tie.Need-count-sorted-requires-2
+count-sorted-requires-2 c κs =
+    let start = c .before .before .before .before .before in
+    (start .pre .0, (start .pre .1, by-class (start .pre .0) (c .before .if2 .taken) (c .memory-at2 .ensures)))
 
--- src/lib.rt:69:9
-add-i : tie.Need-add-i Inv-loop μ-loop
-add-i c = search needs
+-- src/lib.rt:112:9
+returns-2 : tie.Need-returns-2
+returns-2 c = search needs
 
--- src/lib.rt:70:12
-cast-if1 : tie.Need-cast-if1 Inv-loop μ-loop
-cast-if1 c = search needs
+-- src/lib.rt:114:5
+count-scanned-requires : tie.Need-count-scanned-requires
+count-scanned-requires c κs = search needs
 
--- src/lib.rt:71:13
-add-seen : tie.Need-add-seen Inv-loop μ-loop
-add-seen c = search needs
-
--- src/lib.rt:67:5
-loop-less : tie.Need-loop-less Inv-loop μ-loop
-loop-less c = search needs
-
--- src/lib.rt:67:5
-loop-again : tie.Need-loop-again Inv-loop μ-loop
-loop-again c =
-    let read = c .before in
-    let l = read .before .before .loop in
-    (omega arith, l .inv .1, omega arith, key-met _ _ (l .i) (read .read-column .ensures) (c .if1 .taken) (l .inv .3))
-
--- src/lib.rt:67:5
-loop-less-2 : tie.Need-loop-less-2 Inv-loop μ-loop
-loop-less-2 c = search needs
-
--- src/lib.rt:67:5
-loop-again-2 : tie.Need-loop-again-2 Inv-loop μ-loop
-loop-again-2 c =
-    let read = c .before in
-    let l = read .before .before .loop in
-    (omega arith, l .inv .1, omega arith, key-passed _ _ (l .i) (read .read-column .ensures) (c .if1 .left) (l .inv .3))
-
--- src/lib.rt:58:1
-returns : tie.Need-returns Inv-loop μ-loop
-returns c = all-seen _ _ _ (c .before .before .key-rows .ensures) (c .before .loop .i) (omega arith) (c .before .loop .inv .3)
+-- src/lib.rt:101:1
+returns-3 : tie.Need-returns-3
+returns-3 c = search needs
 
 pub count-key-spec : {M : Type 1} → statement M
 count-key-spec =
     tie.close
     (tie.spec
-    Inv-loop
-    μ-loop
-    key-rows-requires
-    loop-holds
-    read-column-requires
-    add-i
-    cast-if1
-    add-seen
-    loop-less
-    loop-again
-    loop-less-2
-    loop-again-2
-    returns)
+    memory-at-requires
+    count-sorted-requires
+    returns
+    memory-at-requires-2
+    count-sorted-requires-2
+    returns-2
+    count-scanned-requires
+    returns-3)
