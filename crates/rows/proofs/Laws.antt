@@ -153,6 +153,9 @@ module _ {b : List ℕ} {at : ℕ} {p : Part} where
 pub same-rows : {t l : List ℕ} → Laid t l → (c d : ℕ) → c < columns.count → d < columns.count → readColumn c .kind ≡ readColumn d .kind → rowsAt l c ≡ rowsAt l d
 same-rows {t} {l} laid c d k m e = rows-at laid c k ∙ ap (keptRows (optionsIn l) (headerIn t l) (length t)) e ∙ sym (rows-at laid d m)
 
+pub same-enclosing : {t l : List ℕ} → Laid t l → rowsAt l columns.nested ≡ rowsAt l columns.enclosing
+same-enclosing laid = same-rows laid columns.nested columns.enclosing (omega arith) (omega arith) refl
+
 -- No table has more rows than 32 bits can say.
 pub rows-narrow : {t l : List ℕ} → Laid t l → (c : ℕ) → c < columns.count → rowsAt l c < columns.word
 rows-narrow {t} {l} laid c k =

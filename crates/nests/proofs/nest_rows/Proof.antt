@@ -7,9 +7,9 @@ use Rattle.numbers.proofs.Lists.{front-length, front-zero}
 use native.Mathlib.Omega.{arith}
 use Rattle.rows.specs.Columns as columns
 use Rattle.rows.specs.Layout.{rowsAt, cell}
-use Rattle.rows.proofs.Laws.{rows-narrow}
+use Rattle.rows.proofs.Laws.{rows-narrow, same-enclosing}
 use Rattle.nests.specs.Nests.{Nesting}
-use Rattle.nests.proofs.Laws.{nest-small, nest-start, nest-end, same-enclosing}
+use Rattle.nests.proofs.Laws.{nest-small, nest-start, nest-end}
 use Rattle.nests.proofs.nest_rows.Statement.{statement}
 use Rattle.nests.proofs.nest_rows.Tie as tie
 use Rattle.nests.proofs.nest_rows.Reads as reads

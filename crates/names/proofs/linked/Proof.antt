@@ -1,10 +1,11 @@
 use native.Mathlib.Omega.{arith}
-use Rattle.nests.proofs.Laws.{last-missed, last-found, same-enclosing}
+use Rattle.rows.proofs.Laws.{same-enclosing}
+use Rattle.names.proofs.Links.{last-missed, last-found}
 use borrow.Author.Needs.{needs}
-use Rattle.nests.proofs.linked.Statement.{statement}
-use Rattle.nests.proofs.linked.Tie as tie
-use Rattle.nests.proofs.linked.Reads as reads
-use Rattle.nests.proofs.linked.Lts as lts
+use Rattle.names.proofs.linked.Statement.{statement}
+use Rattle.names.proofs.linked.Tie as tie
+use Rattle.names.proofs.linked.Reads as reads
+use Rattle.names.proofs.linked.Lts as lts
 use Rattle.numbers.proofs.wide.Reads as wide-reads
 use Rattle.rows.proofs.read_column.Reads as read-column-reads
 
