@@ -13,7 +13,8 @@ ghost use Rattle.holding.specs.Holding.{Told, Bare, Holding, Held};
 
 // An Owner, a TypeOrMethodDef index (ECMA-335 II.24.2.6), is twice a row, and for a method one more.
 const OWNERS: usize = 2;
-// Rows count from 1, so there are keys up to the one behind the last row's; where rows are sorted, a key's word stands before the next one's.
+// How many keys more than rows there are: rows count from 1, an index may name one row past the last, and where rows are sorted a key's
+// rows end where the next one's begin.
 const OWNER_KEYS: usize = 5;
 
 const NESTED_KEYS: usize = 2;

@@ -38,6 +38,20 @@ pub fn count_below(tables: &[u8], layout: &[u32], column: usize, key: usize) -> 
     low
 }
 
+// The memory of a column, where its rows are sorted by it; no words for a column that has none.
+fn memory_of<'a>(tables: &[u8], layout: &'a [u32], column: usize) -> &'a [u32]
+    requires { ⌜ Laid (now tables) (now layout) ⌝ }
+    ensures { λ r. ⌜ Sorted (cell (now (tables .entry)) (now (layout .entry)) column) (rowsAt (now (layout .entry)) column) (now r) ⌝ }
+{
+    if column == rows::columns::OWNER {
+        return rows::memory_at(layout, rows::columns::BY_OWNER);
+    }
+    if column == rows::columns::IMPL_CLASS {
+        return rows::memory_at(layout, rows::columns::BY_CLASS);
+    }
+    &layout[..0]
+}
+
 // Where the rows of a key stand among n sorted ones.
 fn bucket_of(memory: &[u32], n: usize, key: usize) -> Bucket
     ensures { λ r. ⌜ ((f : ℕ → ℕ) → Sorted f n (now (memory .entry)) → BucketIs f n (now (memory .entry)) key r) ⌝ }
@@ -103,15 +117,8 @@ pub fn count_key(tables: &[u8], layout: &[u32], column: usize, key: usize) -> us
     requires { ⌜ column < columns.count ⌝ }
     ensures { λ r. ⌜ r ≡ keyed (cell (now (tables .entry)) (now (layout .entry)) column) key (rowsAt (now (layout .entry)) column) ⌝ }
 {
-    if column == rows::columns::OWNER {
-        let memory = rows::memory_at(layout, rows::columns::BY_OWNER);
-        return count_sorted(memory, tables, layout, column, key);
-    }
-    if column == rows::columns::IMPL_CLASS {
-        let memory = rows::memory_at(layout, rows::columns::BY_CLASS);
-        return count_sorted(memory, tables, layout, column, key);
-    }
-    count_scanned(tables, layout, column, key)
+    let memory = memory_of(tables, layout, column);
+    count_sorted(memory, tables, layout, column, key)
 }
 
 // The row of the key that has nth rows of that key before it, by reading the rows on from one of which it is known how many of the key are
@@ -126,7 +133,8 @@ fn find_scanned(
     passed: usize,
 ) -> Row
     requires { ⌜ Laid (now tables) (now layout) ⌝ }
-    requires { ⌜ (column < columns.count) × (from ≤ rowsAt (now layout) column) × (passed ≡ keyed (cell (now tables) (now layout) column) key from) × (passed ≤ nth) ⌝ }
+    requires { ⌜ (column < columns.count) × (from ≤ rowsAt (now layout) column)
+        × (passed ≡ keyed (cell (now tables) (now layout) column) key from) × (passed ≤ nth) ⌝ }
     ensures { λ r. ⌜ FoundIs (cell (now (tables .entry)) (now (layout .entry)) column) key (rowsAt (now (layout .entry)) column) nth r ⌝ }
 {
     let n = rows::count_rows(layout, column);
@@ -157,7 +165,8 @@ fn find_sorted(
     passed: usize,
 ) -> Row
     requires { ⌜ Laid (now tables) (now layout) ⌝ }
-    requires { ⌜ (column < columns.count) × (from ≤ rowsAt (now layout) column) × (passed ≡ keyed (cell (now tables) (now layout) column) key from) × (passed ≤ nth) ⌝ }
+    requires { ⌜ (column < columns.count) × (from ≤ rowsAt (now layout) column)
+        × (passed ≡ keyed (cell (now tables) (now layout) column) key from) × (passed ≤ nth) ⌝ }
     requires { ⌜ Sorted (cell (now tables) (now layout) column) (rowsAt (now layout) column) (now memory) ⌝ }
     ensures { λ r. ⌜ FoundIs (cell (now (tables .entry)) (now (layout .entry)) column) key (rowsAt (now (layout .entry)) column) nth r ⌝ }
 {
@@ -193,16 +202,10 @@ pub fn find_key_from(
     passed: usize,
 ) -> Row
     requires { ⌜ Laid (now tables) (now layout) ⌝ }
-    requires { ⌜ (column < columns.count) × (from ≤ rowsAt (now layout) column) × (passed ≡ keyed (cell (now tables) (now layout) column) key from) × (passed ≤ nth) ⌝ }
+    requires { ⌜ (column < columns.count) × (from ≤ rowsAt (now layout) column)
+        × (passed ≡ keyed (cell (now tables) (now layout) column) key from) × (passed ≤ nth) ⌝ }
     ensures { λ r. ⌜ FoundIs (cell (now (tables .entry)) (now (layout .entry)) column) key (rowsAt (now (layout .entry)) column) nth r ⌝ }
 {
-    if column == rows::columns::OWNER {
-        let memory = rows::memory_at(layout, rows::columns::BY_OWNER);
-        return find_sorted(memory, tables, layout, column, key, nth, from, passed);
-    }
-    if column == rows::columns::IMPL_CLASS {
-        let memory = rows::memory_at(layout, rows::columns::BY_CLASS);
-        return find_sorted(memory, tables, layout, column, key, nth, from, passed);
-    }
-    find_scanned(tables, layout, column, key, nth, from, passed)
+    let memory = memory_of(tables, layout, column);
+    find_sorted(memory, tables, layout, column, key, nth, from, passed)
 }
