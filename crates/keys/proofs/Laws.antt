@@ -23,8 +23,8 @@ use Rattle.layouts.specs.Read.{readColumn}
 use Rattle.rows.specs.Columns as columns
 use Rattle.rows.specs.Layout.{optionsIn, headerIn, rowsAt, cell, Ascends, Laid, viewIn}
 use Rattle.rows.specs.Held.{keyed}
-use Rattle.rows.proofs.Laws.{rows-at, ascending, le-or-lt}
-use Rattle.keys.specs.Keyed.{FoundIs, SplitAt, OnlyIn}
+use Rattle.rows.proofs.Laws.{rows-at, ascending}
+use Rattle.keys.specs.Keyed.{FoundIs, SplitAt}
 use Rattle.keys.specs.declared.Row.{Row}
 use Rattle.keys.specs.declared.Row.the-variants.{At, NoRow}
 
@@ -56,27 +56,6 @@ module _ (f : ℕ → ℕ) (k : ℕ) where
   -- A scan over n rows that is at its end has seen all of the key.
   pub scan-over : {i n seen : ℕ} (rows : ℕ) → i ≤ n → n ≡ rows → n ≤ i → seen ≡ keyed f k i → seen ≡ keyed f k rows
   scan-over {i} rows a e b s = let end : i ≡ rows = omega arith in s ∙ ap (keyed f k) end
-
--- Rows without the key add nothing.
-none-keyed : (f : ℕ → ℕ) (k a d : ℕ) → ((i : ℕ) → a ≤ i → i < a + d → f i ≢ k) → keyed f k (a + d) ≡ keyed f k a
-unfolding keyed
-none-keyed f k a zero h = let e : a + 0 ≡ a = omega arith in ap (keyed f k) e
-none-keyed f k a (suc d) h =
-    let e : a + suc d ≡ suc (a + d) = omega arith in
-    rw (e, ne-eqb (f (a + d)) k (h (a + d) (omega arith) (omega arith))) (none-keyed f k a d (λ i l m. h i l (omega arith)))
-
--- Its start and its end, among the rows that can have the key.
-module _ (f : ℕ → ℕ) (k n : ℕ) {first end : ℕ} (o : OnlyIn f k n first end) where
-  pub none-seen : 0 ≡ keyed f k first
-  unfolding keyed
-  none-seen =
-      let e : 0 + first ≡ first = omega arith in
-      sym (none-keyed f k 0 first (λ i l m. o .before i (omega arith))) ∙ ap (keyed f k) e
-
-  pub all-seen : (i : ℕ) {seen : ℕ} → i ≡ end → seen ≡ keyed f k i → seen ≡ keyed f k n
-  all-seen i e s =
-      let all : end + (n - end) ≡ n = omega (arith, o .within) in
-      s ∙ ap (keyed f k) e ∙ sym (none-keyed f k end (n - end) (λ i l m. o .behind i l (omega arith))) ∙ ap (keyed f k) all
 
 -- ---- Halving
 
@@ -120,27 +99,6 @@ module _ (f : ℕ → ℕ) (k n : ℕ) where
               let same : f (i + (j - i)) ≡ f j = ap f e in
               omega (arith, ascending f n a i (j - i) (omega arith));
         }
-
--- ---- The rows of a key
-
-module _ (f : ℕ → ℕ) (k n : ℕ) where
-  pub in-rest : {first end : ℕ} → SplitAt f k n first → end ≡ n → OnlyIn f k n first end
-  in-rest s e =
-      record {
-        order = omega (arith, s .within);
-        within = omega arith;
-        before = λ i h q. omega (arith, s .below i h);
-        behind = λ i h m. absurd (omega arith);
-      }
-
-  pub in-split : {first end : ℕ} → SplitAt f k n first → SplitAt f (k + 1) n end → OnlyIn f k n first end
-  in-split {first} {end} s r =
-      record {
-        order = ⊎-elim (λ l. l) (λ l. absurd (omega (arith, s .below end l, r .above end (omega arith) (omega (arith, s .within))))) (le-or-lt first end);
-        within = r .within;
-        before = λ i h e. omega (arith, s .below i h);
-        behind = λ i h m e. omega (arith, r .above i h m);
-      }
 
 -- ---- The list of a key, of any table
 

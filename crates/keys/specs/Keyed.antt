@@ -1,10 +1,13 @@
--- Rows by a key: what a search for one of them comes to, and among which rows they are.
+-- Rows by a key: what a search for one of them comes to, and where they stand.
 use mathlib.Core.Path.{_≡_}
-use mathlib.Core.Logic.{_≢_}
-use Prim.Native.Nat.{ℕ, _≤_, _<_}
-use Rattle.rows.specs.Held.{keyed}
+use mathlib.Core.List.{List}
+use Prim.Native.Nat.{ℕ, _+_, _≤_, _<_}
+use lib.ListN.{length}
+use Rattle.rows.specs.Held.{keyed, lower}
 use Rattle.keys.specs.declared.Row.{Row}
 use Rattle.keys.specs.declared.Row.the-variants.{At, NoRow}
+use Rattle.keys.specs.declared.Bucket.{Bucket}
+use Rattle.keys.specs.declared.Bucket.the-variants.{Among, NoRoom}
 
 -- What a search among n rows for the row of a key that has so many rows of that key before it comes to.
 abbrev pub FoundIs : (ℕ → ℕ) → ℕ → ℕ → ℕ → Row → Type 0
@@ -17,9 +20,7 @@ pub record SplitAt (f : ℕ → ℕ) (k n r : ℕ) : Type 0 where
   pub below : (i : ℕ) → i < r → f i < k
   pub above : (i : ℕ) → r ≤ i → i < n → k ≤ f i
 
--- Of n rows those that have the key k are among the ones from first up to the end.
-pub record OnlyIn (f : ℕ → ℕ) (k n first end : ℕ) : Type 0 where
-  pub order : first ≤ end
-  pub within : end ≤ n
-  pub before : (i : ℕ) → i < first → f i ≢ k
-  pub behind : (i : ℕ) → end ≤ i → i < n → f i ≢ k
+-- Where the rows of the key k stand among the sorted ones, if the memory has room for it and for the next.
+abbrev pub BucketIs : (ℕ → ℕ) → ℕ → List ℕ → ℕ → Bucket → Type 0
+BucketIs f n m k (Among first end) = (k + 1 + n < length m) × (first ≡ lower f n k) × (end ≡ lower f n k + keyed f k n)
+BucketIs f n m k NoRoom = Unit {0}

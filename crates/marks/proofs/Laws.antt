@@ -1,16 +1,18 @@
 -- What marking relies on: the turns of the pass over a column, and that a true mark leaves everything else as it is. Assumes nothing.
-use mathlib.Core.Path.{_≡_, refl, sym, ap, _∙_}
+use mathlib.Core.Path.{_≡_, refl, sym, ap, subst, _∙_}
 use mathlib.Core.Bool.{true, false, true≢false}
 use mathlib.Core.List.{List}
-use mathlib.Core.Logic.{⊎-elim}
+use mathlib.Core.Logic.{_≢_, ⊎-elim}
 use Prim.Native.Nat.{ℕ, _+_, _-_, _*_, _≤_, _<_}
 use native.Mathlib.Nat.{eq-or-lt-of-le, eq-zero-or-pos}
 use native.Mathlib.Omega.{arith}
 use lib.ListN.{length, getD, set, length-set}
 use lib.Seq.{getD-set-other}
+use Rattle.numbers.specs.Parts.{part}
 use Rattle.rows.specs.Columns as columns
-use Rattle.rows.specs.Layout.{Laid, Ascends, optionsIn, markAt, rowsAt, cell, viewIn}
-use Rattle.rows.proofs.Laws.{same-or-not}
+use Rattle.rows.specs.Held.{Sorted, Nested}
+use Rattle.rows.specs.Layout.{Laid, Ascends, heldStart, heldLength, heldAt, rowsAt, cell, viewIn}
+use Rattle.rows.proofs.Memory.{part-same, same-options, relaid}
 use Rattle.marks.specs.Marks.{Tells, Marked}
 
 -- ---- The pass over a column f
@@ -60,36 +62,44 @@ tells-no f n h = record { yes = λ z. absurd (true≢false (sym z)); no = λ _. 
 pub unmarked : {t l : List ℕ} → Laid t l → Marked t l l
 unmarked laid = record { laid = laid; options = refl }
 
-pub marked-then : {t l l′ l″ : List ℕ} → Marked t l l′ → Marked t l′ l″ → Marked t l l″
-marked-then a b = record { laid = b .laid; options = b .options ∙ a .options }
-
 -- The view is the same.
 pub marked-view : {t l l′ : List ℕ} → Marked t l l′ → (strings blob : List ℕ) → viewIn t l′ strings blob ≡ viewIn t l strings blob
 marked-view m strings blob = rw (m .options)
 
-module _ {t l : List ℕ} (laid : Laid t l) (c : ℕ) where
+module _ {t l : List ℕ} (laid : Laid t l) where
   abbrev l′ : List ℕ
-  l′ = set l (columns.marks + c) 1
+  l′ = set l columns.mark 1
 
-  kept : (i : ℕ) → i < columns.marks → getD l′ i 0 ≡ getD l i 0
-  kept i h = getD-set-other l (columns.marks + c) i 1 0 (λ e. omega arith)
+  long : length l′ ≡ length l
+  long = length-set l columns.mark 1
 
-  same-options : optionsIn l′ ≡ optionsIn l
-  unfolding optionsIn
-  same-options = rw (kept columns.limit (omega arith), kept columns.security (omega arith))
+  kept : (i : ℕ) → i ≢ columns.mark → getD l′ i 0 ≡ getD l i 0
+  kept i h = getD-set-other l columns.mark i 1 0 h
 
-  pub marked-one : c < columns.count → Ascends (cell t l c) (rowsAt l c) → Marked t l l′
-  marked-one h a =
+  kept-start : (j : ℕ) → heldStart l′ j ≡ heldStart l j
+  kept-start j = kept (columns.held + columns.heldNumbers * j) (λ e. omega arith)
+
+  kept-length : (j : ℕ) → heldLength l′ j ≡ heldLength l j
+  kept-length j = kept (columns.held + columns.heldNumbers * j + columns.heldWords) (λ e. omega arith)
+
+  -- A memory stands behind the mark.
+  kept-words : (j : ℕ) → j < columns.heldCount → (i : ℕ) → heldStart l j ≤ i → i < heldStart l j + heldLength l j → getD l′ i 0 ≡ getD l i 0
+  kept-words j h i a b = kept i (λ e. omega (arith, laid .behind j h (omega arith)))
+
+  kept-memory : (j : ℕ) → j < columns.heldCount → heldAt l j ≡ heldAt l′ j
+  kept-memory j h =
+      sym (part-same l l′ (heldStart l j) (heldLength l j) (laid .inside j h) (omega (arith, long, laid .inside j h)) (kept-words j h))
+      ∙ ap (λ (a : ℕ). part l′ a (heldLength l j)) (sym (kept-start j)) ∙ ap (part l′ (heldStart l′ j)) (sym (kept-length j))
+
+  pub marked-one : Ascends (cell t l columns.methodList) (rowsAt l columns.methodList) → Marked t l l′
+  marked-one a =
       record {
-        laid = record {
-          size = simp length-set (laid .size);
-          ready = rw same-options (laid .ready);
-          narrow = rw same-options (laid .narrow);
-          is = λ i k. rw same-options (kept i k ∙ laid .is i k);
-          marked = λ d k m. rw (same-options, kept (columns.numbers * d + columns.rows) (omega arith))
-              (⊎-elim (λ e. rw e a)
-              (λ n. laid .marked d k (sym (getD-set-other l (columns.marks + c) (columns.marks + d) 1 0 (λ e. n (omega arith))) ∙ m))
-              (same-or-not d c));
-        };
-        options = same-options;
+        laid =
+            relaid l′ laid (λ i h. kept i (λ e. omega arith)) (omega (arith, long, laid .size)) (λ _. a)
+            (λ j h. omega (arith, long, kept-start j, kept-length j, laid .inside j h))
+            (λ j h p. omega (arith, kept-start j, laid .behind j h (omega (arith, kept-length j))))
+            (subst (Sorted _ _) (kept-memory columns.byOwner (omega arith)) (laid .generics))
+            (subst (Sorted _ _) (kept-memory columns.byClass (omega arith)) (laid .interfaces))
+            (subst (Nested _ _ _) (kept-memory columns.byNested (omega arith)) (laid .nests));
+        options = same-options l′ laid (λ i h. kept i (λ e. omega arith));
       }

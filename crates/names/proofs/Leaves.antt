@@ -3,7 +3,7 @@ use mathlib.Core.Path.{_≡_, refl, sym, ap, subst, _∙_}
 use mathlib.Core.List.{List}
 use mathlib.Core.Option.{Option, none, some}
 use mathlib.Core.Logic.{⊎-elim}
-use Prim.Native.Nat.{ℕ, _+_, _-_, _≤_, _<_, min}
+use Prim.Native.Nat.{ℕ, _+_, _-_, _≤_, _<_}
 use native.Mathlib.Omega.{arith}
 use borrow.Author.Tests.{lt-ltb, le-ltb}
 use lib.ListN.{length, take, drop, length-drop}
@@ -28,7 +28,6 @@ use Rattle.rows.specs.Layout.{optionsIn, headerIn, rowsAt, cell, Laid}
 use Rattle.rows.specs.Held.{around}
 use Rattle.rows.proofs.Laws.{rows-at, le-or-lt}
 use Rattle.rows.proofs.Held.{around-low as low, around-other as other, around-out as out, around-in as in-row}
-use Rattle.keys.specs.Keyed.{OnlyIn}
 use Rattle.classes.specs.declared.TypeDefRow.{TypeDefRow}
 use Rattle.names.specs.Naming.{nameText, NameInside, Shows, classString, nameIn, aroundIn, aroundSays, LastAround}
 use Rattle.names.specs.declared.Name.{Name}
@@ -142,12 +141,11 @@ pub record Looking (t l : List ℕ) (end r i : ℕ) : Type 0 where
   pub none-acts : (j : ℕ) → i ≤ j → j < end → none ≡ aroundIn t l j r
 
 module _ (t l : List ℕ) (end r : ℕ) where
-  module _ {first past : ℕ} (o : OnlyIn (cell t l columns.nested) r (rowsAt l columns.nested) first past) where
-    pub look-start : {i : ℕ} → end ≤ rowsAt l columns.nested → i ≡ min end past → Looking t l end r i
-    look-start h e = record { within = omega arith; none-acts = λ j lo hi. around-other t l j r (o .behind j (omega arith) (omega arith)) }
+  pub look-start : Looking t l end r end
+  look-start = record { within = omega arith; none-acts = λ j lo hi. absurd (omega arith) }
 
-    pub look-end : {i : ℕ} → Looking t l end r i → i ≤ first → LastAround t l end r Outermost
-    look-end {i} k h j hi = ⊎-elim (λ m. k .none-acts j m hi) (λ m. around-other t l j r (o .before j (omega arith))) (le-or-lt i j)
+  pub look-end : {i : ℕ} → Looking t l end r i → i ≤ 0 → LastAround t l end r Outermost
+  look-end k h j hi = k .none-acts j (omega arith) hi
 
   module _ {i : ℕ} (k : Looking t l end r i) (z : 0 < i) {a : Around} (says : aroundSays a ≡ aroundIn t l (i - 1) r) where
     pub look-on : a ≡ NoClass → Looking t l end r (i - 1)

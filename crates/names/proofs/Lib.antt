@@ -1,3 +1,4 @@
 pub mod Leaves
 pub mod Pass
 pub mod Full
+pub mod Links

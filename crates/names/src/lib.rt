@@ -1,6 +1,6 @@
 // Names of classes (ECMA-335 II.22.37, II.22.32) and of TypeRef rows (II.22.38). A class nested in others has their names in front of
-// its own: these are found by one backward pass over the NestedClass rows, from the innermost class outwards, so the text is written
-// from its end.
+// its own: these are found from the innermost class outwards, by the layout's links from NestedClass row to row, or by one backward pass over
+// these rows where it has none. So the text is written from its end.
 use backwards::Spot;
 use buffers::Place;
 use classes::TypeDefRow;
@@ -18,6 +18,7 @@ ghost use Rattle.record.specs.Names.{classFullName, refFullName};
 ghost use Rattle.layouts.specs.Read.{readColumn};
 ghost use Rattle.rows.specs.Columns as columns;
 ghost use Rattle.rows.specs.Layout.{Laid, rowsAt, cell, viewIn};
+ghost use Rattle.rows.specs.Held.{LastIs, Nested};
 ghost use Rattle.names.specs.Naming.{Shows, classString, nameIn, aroundIn, aroundSays, LastAround, dotted, frontIn, behindFront};
 
 // Where in the strings heap a name stands.
@@ -107,22 +108,14 @@ fn class_around(tables: &[u8], layout: &[u32], i: usize, row: TypeDefRow) -> Aro
     Around::Class(TypeDefRow(enclosing))
 }
 
-fn least(a: usize, b: usize) -> usize
-    ensures { λ r. ⌜ r ≡ min a b ⌝ }
-{
-    if b < a { b } else { a }
-}
-
-// Of the rows before an end the last that puts a class around another. Only rows whose nested class it is can.
-pub fn last_around(tables: &[u8], layout: &[u32], end: usize, row: TypeDefRow) -> Outer
+// Of the rows before an end the last that puts a class around another, by reading them.
+fn last_around(tables: &[u8], layout: &[u32], end: usize, row: TypeDefRow) -> Outer
     requires { ⌜ Laid (now tables) (now layout) ⌝ }
     requires { ⌜ end ≤ rowsAt (now layout) columns.nested ⌝ }
     ensures { λ r. ⌜ LastAround (now (tables .entry)) (now (layout .entry)) end (row .0) r ⌝ }
 {
-    let own = keys::key_rows(tables, layout, rows::columns::NESTED, row.0 as usize);
-    let first = own.first;
-    let mut i = least(end, own.end);
-    while first < i {
+    let mut i = end;
+    while 0 < i {
         i -= 1;
         match class_around(tables, layout, i, row) {
             Around::Class(outer) => {
@@ -132,6 +125,76 @@ pub fn last_around(tables: &[u8], layout: &[u32], end: usize, row: TypeDefRow) -
         }
     }
     Outer::Outermost
+}
+
+// What a link of NestedClass names.
+fn linked(tables: &[u8], layout: &[u32], link: u32) -> Outer
+    requires { ⌜ Laid (now tables) (now layout) ⌝ }
+    requires { ⌜ link ≤ rowsAt (now layout) columns.nested ⌝ }
+    ensures { λ r.
+        ⌜ ((end row : ℕ) → LastIs (cell (now (tables .entry)) (now (layout .entry)) columns.nested)
+        (cell (now (tables .entry)) (now (layout .entry)) columns.enclosing) end row link
+        → LastAround (now (tables .entry)) (now (layout .entry)) end row r) ⌝ }
+{
+    if link == 0 {
+        return Outer::Outermost;
+    }
+    let i = numbers::wide(link - 1);
+    let enclosing = rows::read_column(tables, layout, rows::columns::ENCLOSING, i);
+    Outer::Nested(TypeDefRow(enclosing), i)
+}
+
+// Of all NestedClass rows the last that puts a class around another, by the memory of their links. A class for which that has no room is
+// searched for row by row.
+fn outer_of(memory: &[u32], tables: &[u8], layout: &[u32], row: TypeDefRow) -> Outer
+    requires { ⌜ Laid (now tables) (now layout) ⌝ }
+    requires { ⌜ Nested (cell (now tables) (now layout) columns.nested) (cell (now tables) (now layout) columns.enclosing)
+        (rowsAt (now layout) columns.nested) (now memory) ⌝ }
+    ensures { λ r.
+        ⌜ LastAround (now (tables .entry)) (now (layout .entry)) (rowsAt (now (layout .entry)) columns.nested) (row .0) r ⌝ }
+{
+    let n = rows::count_rows(layout, rows::columns::NESTED);
+    let class = numbers::wide(row.0);
+    if n <= memory.len() {
+        if class < memory.len() - n {
+            return linked(tables, layout, memory[class]);
+        }
+    }
+    last_around(tables, layout, n, row)
+}
+
+// The same of the rows before row i, for the class that row i puts around another.
+fn outer_at(memory: &[u32], tables: &[u8], layout: &[u32], i: usize, row: TypeDefRow) -> Outer
+    requires { ⌜ Laid (now tables) (now layout) ⌝ }
+    requires { ⌜ Nested (cell (now tables) (now layout) columns.nested) (cell (now tables) (now layout) columns.enclosing)
+        (rowsAt (now layout) columns.nested) (now memory) ⌝ }
+    requires { ⌜ (i < rowsAt (now layout) columns.nested) × (cell (now tables) (now layout) columns.enclosing i ≡ row .0) ⌝ }
+    ensures { λ r. ⌜ LastAround (now (tables .entry)) (now (layout .entry)) i (row .0) r ⌝ }
+{
+    let n = rows::count_rows(layout, rows::columns::NESTED);
+    let class = numbers::wide(row.0);
+    if n <= memory.len() {
+        let room = memory.len() - n;
+        if class < room {
+            return linked(tables, layout, memory[room + i]);
+        }
+    }
+    last_around(tables, layout, i, row)
+}
+
+// The last of the rows before row i, or of all where i is their number. Row i puts that class around another.
+fn next_outer(memory: &[u32], tables: &[u8], layout: &[u32], i: usize, row: TypeDefRow) -> Outer
+    requires { ⌜ Laid (now tables) (now layout) ⌝ }
+    requires { ⌜ Nested (cell (now tables) (now layout) columns.nested) (cell (now tables) (now layout) columns.enclosing)
+        (rowsAt (now layout) columns.nested) (now memory) ⌝ }
+    requires { ⌜ (i ≤ rowsAt (now layout) columns.nested)
+        × (i < rowsAt (now layout) columns.nested → cell (now tables) (now layout) columns.enclosing i ≡ row .0) ⌝ }
+    ensures { λ r. ⌜ LastAround (now (tables .entry)) (now (layout .entry)) i (row .0) r ⌝ }
+{
+    if i < rows::count_rows(layout, rows::columns::NESTED) {
+        return outer_at(memory, tables, layout, i, row);
+    }
+    outer_of(memory, tables, layout, row)
 }
 
 // Write a part of the strings heap and a dot, which end at a place and begin not before the floor.
@@ -167,11 +230,12 @@ fn put_front(
         (frontIn (now (tables .entry)) (now (layout .entry)) (now (strings .entry)) (rowsAt (now (layout .entry)) columns.nested) (row .0))
         (now (buf .exit)) r ⌝ }
 {
+    let memory = rows::memory_at(layout, rows::columns::BY_NESTED);
     let mut i = rows::count_rows(layout, rows::columns::NESTED);
     let mut class = row;
     let mut p = end;
     while 0 < i {
-        match last_around(tables, layout, i, class) {
+        match next_outer(memory, tables, layout, i, class) {
             Outer::Nested(outer, at) => match class_own_name(tables, strings, layout, outer) {
                 Name::At { start, len } => match put_dotted(buf, floor, p, strings, start, len) {
                     Spot::From(q) => {

@@ -1,6 +1,5 @@
--- What the links of NestedClass rely on: the turns of the pass that makes them, and that a link answers as the search for it does.
--- Assumes nothing.
-use mathlib.Core.Path.{_≡_, sym, ap, _∙_, subst, refl}
+-- What the links of NestedClass rely on: the turns of the pass that makes them. Assumes nothing.
+use mathlib.Core.Path.{_≡_, sym, ap, _∙_, subst}
 use mathlib.Core.List.{List}
 use mathlib.Core.Option.{none, some}
 use mathlib.Core.Logic.{⊎-elim}
@@ -9,19 +8,10 @@ use native.Mathlib.Nat.{eq-or-lt-of-le}
 use native.Mathlib.Omega.{arith}
 use lib.ListN.{length, getD, set, length-set}
 use lib.Seq.{getD-set-same, getD-set-other}
-use Rattle.classes.specs.declared.TypeDefRow.{TypeDefRow}
-use Rattle.rows.specs.Columns as columns
-use Rattle.rows.specs.Layout.{Laid, rowsAt, cell}
 use Rattle.rows.specs.Held.{around, LastIs, Nested}
-use Rattle.rows.proofs.Laws.{same-rows, same-or-not}
+use Rattle.rows.proofs.Laws.{same-or-not}
 use Rattle.rows.proofs.Held.{around-other, around-in}
-use Rattle.names.specs.Naming.{aroundIn, LastAround}
-use Rattle.names.specs.declared.Outer.the-variants.{Nested as Around, Outermost}
-use Rattle.names.proofs.Leaves.{around-is}
 use Rattle.nests.specs.Nests.{Nesting}
-
-pub same-enclosing : {t l : List ℕ} → Laid t l → rowsAt l columns.nested ≡ rowsAt l columns.enclosing
-same-enclosing laid = same-rows laid columns.nested columns.enclosing (omega arith) (omega arith) refl
 
 -- ---- One link
 
@@ -46,18 +36,6 @@ module _ (f g : ℕ → ℕ) (i r x : ℕ) where
 
 last-none : (f g : ℕ → ℕ) (r x : ℕ) → x ≡ 0 → LastIs f g 0 r x
 last-none f g r x e = record { within = omega arith; found = λ p. absurd (omega arith); behind = λ j a b. absurd (omega arith) }
-
--- A link answers the search for it.
-module _ (t l : List ℕ) {end r x : ℕ} (h : LastIs (cell t l columns.nested) (cell t l columns.enclosing) end r x) where
-  pub last-found : 0 < x → {e : TypeDefRow} {i : ℕ} → i ≡ x - 1 → e .0 ≡ cell t l columns.enclosing i → LastAround t l end r (Around e i)
-  last-found p {e} {i} a b = (
-    omega (arith, h .within),
-    ap some (b ∙ ap (cell t l columns.enclosing) a) ∙ h .found p ∙ around-is t l (x - 1) r ∙ ap (λ (k : ℕ). aroundIn t l k r) (sym a),
-    λ j lo hi. h .behind j (omega arith) hi ∙ around-is t l j r,
-  )
-
-  pub last-missed : x ≡ 0 → LastAround t l end r Outermost
-  last-missed e j b = h .behind j (omega arith) b ∙ around-is t l j r
 
 -- ---- The pass
 
@@ -139,11 +117,3 @@ module _ (f g : ℕ → ℕ) (n : ℕ) (m : List ℕ) (i room link : ℕ) (insid
 
 pub told-as : (m : List ℕ) {enclosing c room link : ℕ} → enclosing ≡ c → (enclosing < room → link ≡ getD m enclosing 0) → c < room → link ≡ getD m c 0
 told-as m e f h = f (omega arith) ∙ ap (λ (y : ℕ). getD m y 0) e
-
-pub head-at : {f g : ℕ → ℕ} {n r class : ℕ} {m : List ℕ} → Nested f g n m → class ≡ r → class + n < length m → LastIs f g n r (getD m class 0)
-head-at {f} {g} {n} {r} {m = m} k e h = subst (λ (y : ℕ). LastIs f g n r (getD m y 0)) (sym e) (k .heads r (omega arith))
-
-pub link-at : {f g : ℕ → ℕ} {n n′ i r class : ℕ} {m : List ℕ} → Nested f g n m → i < n → g i ≡ r → class ≡ r → n′ ≡ n → class + n < length m
-    → LastIs f g i r (getD m (length m - n′ + i) 0)
-link-at {f} {g} {n} {i = i} {r} {m = m} k a e c d h =
-    rw d (subst (λ (y : ℕ). LastIs f g i y (getD m (length m - n + i) 0)) e (k .links i a (omega arith)))

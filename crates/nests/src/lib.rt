@@ -1,16 +1,13 @@
 // The classes around a class, found through a lent memory of links: for each class the last NestedClass row (ECMA-335 II.22.32) that puts
 // another around it, and for each such row the last row before it that does the same for its enclosing class. One pass over NestedClass
-// fills it, forwards, whatever the order of the rows; so a class's name goes from link to link, outwards. A class for which there is no
-// room is searched for row by row. What the memory held before means nothing.
-use classes::TypeDefRow;
-use names::Outer;
+// fills it, forwards, whatever the order of the rows; so a class's name goes from link to link, outwards. What the memory held before means
+// nothing.
 ghost use mathlib.Core.Path.{_≡_};
 ghost use Prim.Native.Nat.{ℕ, _+_, _<_, _≤_};
 ghost use lib.ListN.{length, getD};
 ghost use Rattle.rows.specs.Columns as columns;
 ghost use Rattle.rows.specs.Layout.{Laid, rowsAt, cell};
-ghost use Rattle.rows.specs.Held.{LastIs, Nested};
-ghost use Rattle.names.specs.Naming.{LastAround};
+ghost use Rattle.rows.specs.Held.{Nested};
 ghost use Rattle.nests.specs.Nests.{Nesting};
 
 // The link of a class, by its TypeDef row as a key; 0 where there is no room for it.
@@ -71,58 +68,4 @@ pub fn nest_rows(memory: &mut [u32], tables: &[u8], layout: &[u32])
         nest_row(memory, room, i, nested, enclosing);
         i += 1;
     }
-}
-
-// What a link names.
-fn linked(tables: &[u8], layout: &[u32], link: u32) -> Outer
-    requires { ⌜ Laid (now tables) (now layout) ⌝ }
-    requires { ⌜ link ≤ rowsAt (now layout) columns.nested ⌝ }
-    ensures { λ r.
-        ⌜ ((end row : ℕ) → LastIs (cell (now (tables .entry)) (now (layout .entry)) columns.nested)
-        (cell (now (tables .entry)) (now (layout .entry)) columns.enclosing) end row link
-        → LastAround (now (tables .entry)) (now (layout .entry)) end row r) ⌝ }
-{
-    if link == 0 {
-        return Outer::Outermost;
-    }
-    let i = numbers::wide(link - 1);
-    let enclosing = rows::read_column(tables, layout, rows::columns::ENCLOSING, i);
-    Outer::Nested(TypeDefRow(enclosing), i)
-}
-
-// Of all NestedClass rows the last that puts a class around another.
-pub fn outer_of(memory: &[u32], tables: &[u8], layout: &[u32], row: TypeDefRow) -> Outer
-    requires { ⌜ Laid (now tables) (now layout) ⌝ }
-    requires { ⌜ Nested (cell (now tables) (now layout) columns.nested) (cell (now tables) (now layout) columns.enclosing)
-        (rowsAt (now layout) columns.nested) (now memory) ⌝ }
-    ensures { λ r.
-        ⌜ LastAround (now (tables .entry)) (now (layout .entry)) (rowsAt (now (layout .entry)) columns.nested) (row .0) r ⌝ }
-{
-    let n = rows::count_rows(layout, rows::columns::NESTED);
-    let class = numbers::wide(row.0);
-    if n <= memory.len() {
-        if class < memory.len() - n {
-            return linked(tables, layout, memory[class]);
-        }
-    }
-    names::last_around(tables, layout, n, row)
-}
-
-// The same of the rows before row i, for the class that row i puts around another.
-pub fn outer_at(memory: &[u32], tables: &[u8], layout: &[u32], i: usize, row: TypeDefRow) -> Outer
-    requires { ⌜ Laid (now tables) (now layout) ⌝ }
-    requires { ⌜ Nested (cell (now tables) (now layout) columns.nested) (cell (now tables) (now layout) columns.enclosing)
-        (rowsAt (now layout) columns.nested) (now memory) ⌝ }
-    requires { ⌜ (i < rowsAt (now layout) columns.nested) × (cell (now tables) (now layout) columns.enclosing i ≡ row .0) ⌝ }
-    ensures { λ r. ⌜ LastAround (now (tables .entry)) (now (layout .entry)) i (row .0) r ⌝ }
-{
-    let n = rows::count_rows(layout, rows::columns::NESTED);
-    let class = numbers::wide(row.0);
-    if n <= memory.len() {
-        let room = memory.len() - n;
-        if class < room {
-            return linked(tables, layout, memory[room + i]);
-        }
-    }
-    names::last_around(tables, layout, i, row)
 }

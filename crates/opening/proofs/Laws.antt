@@ -1,8 +1,8 @@
 -- What the calls cite of an opened stream: the layout says the options that it was opened with, and so the stream's view. Assumes nothing.
-use mathlib.Core.Path.{_≡_, refl, sym, ap, _∙_}
+use mathlib.Core.Path.{_≡_, refl, sym, ap, subst, _∙_}
 use mathlib.Core.Bool.{Bool, true, false, cond}
 use mathlib.Core.List.{List}
-use Prim.Native.Nat.{ℕ, _<_}
+use Prim.Native.Nat.{ℕ, _+_, _*_, _<_}
 use native.Mathlib.Omega.{arith}
 use lib.Dec.{eqb}
 use lib.ListN.{length, replicate}
@@ -14,10 +14,12 @@ use Rattle.header.specs.declared.Opened.{Opened}
 use Rattle.header.specs.declared.Opened.the-variants.{Refused, Ready}
 use Rattle.record.specs.View.{view}
 use Rattle.rows.specs.Columns as columns
-use Rattle.rows.specs.Layout.{layoutOf, optionsIn, Laid, viewIn}
+use Rattle.rows.specs.Layout.{layoutOf, optionsIn, heldLength, Laid, viewIn}
+use Rattle.rows.specs.Held.{Sorted, Nested}
+use Rattle.rows.proofs.Memory.{sorted-none, nested-none, held-none}
 use Rattle.opening.specs.Opening.{OpenedAs, Unmarked}
 
--- The layout of a stream that was opened: it says the options, and holds no mark.
+-- The layout of a stream that was opened: it says the options, and has no mark and no memory.
 flag-is : (b : Bool) → eqb (cond b 1 0) 1 ≡ b
 flag-is true = refl
 flag-is false = refl
@@ -33,6 +35,9 @@ module _ (o : Options) (t : List ℕ) {l : List ℕ} (u : Unmarked (layoutOf o (
       let same = opened-options o (opened o t) (length t) in
       rw (u .same columns.limit (omega arith), u .same columns.security (omega arith)) same
 
+  no-words : (j : ℕ) → j < columns.heldCount → heldLength l j ≡ 0
+  no-words j h = u .none (columns.held + columns.heldNumbers * j + columns.heldWords) (omega arith) (omega arith)
+
   fresh : opened o t .answer ≡ Ready → o .limit < columns.word → Laid t l
   fresh r n =
       record {
@@ -40,7 +45,18 @@ module _ (o : Options) (t : List ℕ) {l : List ℕ} (u : Unmarked (layoutOf o (
         ready = rw said r;
         narrow = rw said n;
         is = rw said (u .same);
-        marked = λ c k m. absurd (omega (arith, u .none c k));
+        marked = λ m. absurd (omega (arith, u .none columns.mark (omega arith) (omega arith)));
+        inside = λ j h.
+            omega (
+              arith,
+              u .none (columns.held + columns.heldNumbers * j) (omega arith) (omega arith),
+              no-words j h,
+              u .size,
+            );
+        behind = λ j h p. absurd (omega (arith, no-words j h));
+        generics = subst (Sorted _ _) (sym (held-none l columns.byOwner (no-words columns.byOwner (omega arith)))) (sorted-none _ _);
+        interfaces = subst (Sorted _ _) (sym (held-none l columns.byClass (no-words columns.byClass (omega arith)))) (sorted-none _ _);
+        nests = subst (Nested _ _ _) (sym (held-none l columns.byNested (no-words columns.byNested (omega arith)))) (nested-none _ _ _);
       }
 
 -- The answer of opening, by what the code finds.

@@ -47,7 +47,7 @@ pub record Filled (all l : List ℕ) (m : ℕ) : Type 0 where
 pub empty : (all : List ℕ) → Filled all (replicate columns.size 0) 0
 empty all = record { long = refl; same = λ j h. absurd (not-suc-le-zero h); unset = λ j h k. getD-replicate columns.size j 0 0 k }
 
-pub put : {all l : List ℕ} {m : ℕ} → Filled all l m → m < columns.marks → (v : ℕ) → v ≡ getD all m 0 → Filled all (set l m v) (m + 1)
+pub put : {all l : List ℕ} {m : ℕ} → Filled all l m → m < columns.mark → (v : ℕ) → v ≡ getD all m 0 → Filled all (set l m v) (m + 1)
 put {all} {l} {m} f h v e =
     record {
       long = simp length-set (f .long);
@@ -100,7 +100,7 @@ module _ (o : Options) (h : Header) (n : ℕ) where
   whole {l} {c} {v} {w} f p q e g =
       let z : columns.numbers * c ≡ columns.limit = omega arith in
       let a = put (put (rw z at f) (omega arith) v e) (omega arith) w g in
-      record { size = omega (arith, a .long); same = a .same; none = λ k d. a .unset (columns.marks + k) (omega arith) (omega arith) }
+      record { size = omega (arith, a .long); same = a .same; none = a .unset }
 
   -- The numbers of a column, as the code has them.
   module _ (r : Extents) (e : walkSays r ≡ walkReply o h n) (c k : ℕ) (l : c < columns.count) (ek : k ≡ readColumn c .kind) where

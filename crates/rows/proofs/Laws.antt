@@ -1,5 +1,5 @@
 -- What a layout says: the numbers of each column, and that a kept row's columns lie within the stream. Assumes nothing.
-use mathlib.Core.Path.{_≡_, refl, sym, ap, _∙_}
+use mathlib.Core.Path.{_≡_, refl, sym, ap, subst, _∙_}
 use mathlib.Core.Bool.{Bool, true, cond, _&&_}
 use mathlib.Core.List.{List, [], _∷_, _++_}
 use Prim.Native.Nat.{ℕ, zero, suc, _+_, _*_, _≤_, _<_}
@@ -35,7 +35,7 @@ use Rattle.record.proofs.Read.{column-at, column-inside}
 use Rattle.record.proofs.Extents.{kept-le}
 use Rattle.layouts.specs.Read.{Of, readColumns, readColumn, offsetIn, bytesIn}
 use Rattle.rows.specs.Columns as columns
-use Rattle.rows.specs.Layout.{columnNumbers, allNumbers, layoutOf, optionsIn, headerIn, rowsAt, markAt, cell, Ascends, Laid}
+use Rattle.rows.specs.Layout.{columnNumbers, allNumbers, layoutOf, optionsIn, headerIn, rowsAt, isMarked, cell, Ascends, Laid}
 
 -- The numbers of column c stand one after the other.
 module _ (o : Options) (h : Header) (n : ℕ) where
@@ -153,6 +153,9 @@ module _ {b : List ℕ} {at : ℕ} {p : Part} where
 pub same-rows : {t l : List ℕ} → Laid t l → (c d : ℕ) → c < columns.count → d < columns.count → readColumn c .kind ≡ readColumn d .kind → rowsAt l c ≡ rowsAt l d
 same-rows {t} {l} laid c d k m e = rows-at laid c k ∙ ap (keptRows (optionsIn l) (headerIn t l) (length t)) e ∙ sym (rows-at laid d m)
 
+pub same-enclosing : {t l : List ℕ} → Laid t l → rowsAt l columns.nested ≡ rowsAt l columns.enclosing
+same-enclosing laid = same-rows laid columns.nested columns.enclosing (omega arith) (omega arith) refl
+
 -- No table has more rows than 32 bits can say.
 pub rows-narrow : {t l : List ℕ} → Laid t l → (c : ℕ) → c < columns.count → rowsAt l c < columns.word
 rows-narrow {t} {l} laid c k =
@@ -167,8 +170,12 @@ rows-narrow {t} {l} laid c k =
     )
 
 -- A column that is marked ascends, also from one row to a later one.
-pub marked-ascends : {t l : List ℕ} → Laid t l → (c : ℕ) → c < columns.count → {r : Bool} → r ≡ eqb (markAt l c) 1 → r ≡ true → Ascends (cell t l c) (rowsAt l c)
-marked-ascends {t} {l} laid c k e m = laid .marked c k (eqb→eq (markAt l c) 1 (rw (sym e ∙ m) tt))
+pub marked-ascends : {t l : List ℕ} → Laid t l → (c : ℕ) → c < columns.count → {r : Bool} → r ≡ isMarked l c → r ≡ true → Ascends (cell t l c) (rowsAt l c)
+marked-ascends {t} {l} laid c k e m =
+    let both : T (isMarked l c) = rw (sym e ∙ m) tt in
+    let is = eqb→eq c columns.methodList (and-left (eqb c columns.methodList) _ both) in
+    let mark = eqb→eq (getD l columns.mark 0) 1 (and-right (eqb c columns.methodList) _ both) in
+    subst (λ (x : ℕ). Ascends (cell t l x) (rowsAt l x)) (sym is) (laid .marked mark)
 
 pub ascending : (f : ℕ → ℕ) (n : ℕ) → Ascends f n → (i d : ℕ) → i + d < n → f i ≤ f (i + d)
 ascending f n a i zero k =

@@ -100,9 +100,32 @@ limit = numbers * count
 abbrev pub security : ℕ
 security = limit + 1
 
--- and a mark for each column.
-abbrev pub marks : ℕ
-marks = security + 1
+-- and a mark: 1 where METHOD_LIST is known to ascend.
+abbrev pub mark : ℕ
+mark = security + 1
+
+-- Then, for each column by which rows are held, where in the layout the words of its memory begin, and how many there are.
+abbrev pub held : ℕ
+held = mark + 1
+
+abbrev pub heldNumbers : ℕ
+heldNumbers = 2
+
+abbrev pub heldWords : ℕ
+heldWords = 1
+
+-- These are OWNER, IMPL_CLASS and NESTED.
+abbrev pub byOwner : ℕ
+byOwner = 0
+
+abbrev pub byClass : ℕ
+byClass = 1
+
+abbrev pub byNested : ℕ
+byNested = 2
+
+abbrev pub heldCount : ℕ
+heldCount = 3
 
 abbrev pub size : ℕ
-size = marks + count
+size = held + heldNumbers * heldCount

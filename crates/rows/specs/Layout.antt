@@ -1,11 +1,13 @@
 -- The layout: the numbers by which code reads the columns of the record's tables (ECMA-335 II.22) on demand. Opening makes it once, by
--- what the walk found; the code has it as words of 32 bits, and other words may follow its own. Behind these numbers stand marks, which say what is known of a column's order.
+-- what the walk found; the code has it as words of 32 bits. Behind these numbers stand a mark, which says what is known of a column's order,
+-- and where the memories are (Held.antt) by which rows are found: these stand behind the layout's own words.
 use mathlib.Core.Path.{_≡_}
-use mathlib.Core.Bool.{cond}
+use mathlib.Core.Bool.{Bool, cond, _&&_}
 use mathlib.Core.List.{List, [], _∷_, _++_}
 use Prim.Native.Nat.{ℕ, _+_, _*_, _/_, _%_, _<_, _≤_}
 use lib.Dec.{eqb}
 use lib.ListN.{length, getD}
+use Rattle.numbers.specs.Parts.{part}
 use Rattle.header.specs.Stream.{opened}
 use Rattle.header.specs.declared.Options.{Options}
 use Rattle.header.specs.declared.Header.{Header}
@@ -16,6 +18,7 @@ use Rattle.record.specs.Columns.{column}
 use Rattle.record.specs.Rows.{rowBytes}
 use Rattle.record.specs.View.{View, view, place}
 use Rattle.rows.specs.Columns as columns
+use Rattle.rows.specs.Held.{Sorted, Nested}
 
 -- By the options, what opening found, and the length of the tables stream:
 module _ (o : Options) (h : Header) (n : ℕ) where
@@ -57,17 +60,33 @@ cell t l c i =
 abbrev pub Ascends : (ℕ → ℕ) → ℕ → Type 0
 Ascends f n = (i : ℕ) → i + 1 < n → f i ≤ f (i + 1)
 
--- The mark of column c: 1 where the column is known to ascend.
-abbrev pub markAt : List ℕ → ℕ → ℕ
-markAt l c = getD l (columns.marks + c) 0
+-- Whether column c is marked: known to ascend. Only MethodList may be.
+abbrev pub isMarked : List ℕ → ℕ → Bool
+isMarked l c = eqb c columns.methodList && eqb (getD l columns.mark 0) 1
 
--- l begins with the layout of the tables stream t, which was opened and not refused. The limit of rows, an option, has 32 bits. The marks are true.
+-- Where the memory of number j begins, how many words it has, and these words.
+abbrev pub heldStart : List ℕ → ℕ → ℕ
+heldStart l j = getD l (columns.held + columns.heldNumbers * j) 0
+
+abbrev pub heldLength : List ℕ → ℕ → ℕ
+heldLength l j = getD l (columns.held + columns.heldNumbers * j + columns.heldWords) 0
+
+abbrev pub heldAt : List ℕ → ℕ → List ℕ
+heldAt l j = part l (heldStart l j) (heldLength l j)
+
+-- l begins with the layout of the tables stream t, which was opened and not refused. The limit of rows, an option, has 32 bits. The mark is
+-- true, and the memories, which stand behind the layout's own words, are: GenericParam by Owner, InterfaceImpl by Class, and NestedClass.
 pub record Laid (t l : List ℕ) : Type 0 where
   pub size : columns.size ≤ length l
   pub ready : headerIn t l .answer ≡ Ready
   pub narrow : optionsIn l .limit < columns.word
-  pub is : (i : ℕ) → i < columns.marks → getD l i 0 ≡ getD (layoutOf (optionsIn l) (headerIn t l) (length t)) i 0
-  pub marked : (c : ℕ) → c < columns.count → markAt l c ≡ 1 → Ascends (cell t l c) (rowsAt l c)
+  pub is : (i : ℕ) → i < columns.mark → getD l i 0 ≡ getD (layoutOf (optionsIn l) (headerIn t l) (length t)) i 0
+  pub marked : getD l columns.mark 0 ≡ 1 → Ascends (cell t l columns.methodList) (rowsAt l columns.methodList)
+  pub inside : (j : ℕ) → j < columns.heldCount → heldStart l j + heldLength l j ≤ length l
+  pub behind : (j : ℕ) → j < columns.heldCount → 0 < heldLength l j → columns.size ≤ heldStart l j
+  pub generics : Sorted (cell t l columns.owner) (rowsAt l columns.owner) (heldAt l columns.byOwner)
+  pub interfaces : Sorted (cell t l columns.implClass) (rowsAt l columns.implClass) (heldAt l columns.byClass)
+  pub nests : Nested (cell t l columns.nested) (cell t l columns.enclosing) (rowsAt l columns.nested) (heldAt l columns.byNested)
 
 -- The view of a stream by its layout.
 abbrev pub viewIn : List ℕ → List ℕ → List ℕ → List ℕ → View

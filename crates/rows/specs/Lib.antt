@@ -1,3 +1,3 @@
 pub mod Columns
-pub mod Layout
 pub mod Held
+pub mod Layout

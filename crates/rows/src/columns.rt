@@ -58,7 +58,21 @@ pub const WORD: usize = 0x1_0000_0000;
 pub const LIMIT: usize = NUMBERS * COUNT;
 
 pub const SECURITY: usize = LIMIT + 1;
-// and a mark for each column.
-pub const MARKS: usize = SECURITY + 1;
+// and a mark: 1 where METHOD_LIST is known to ascend.
+pub const MARK: usize = SECURITY + 1;
+// Then, for each column by which rows are held, where in the layout the words of its memory begin, and how many there are.
+pub const HELD: usize = MARK + 1;
 
-pub const SIZE: usize = MARKS + COUNT;
+pub const HELD_NUMBERS: usize = 2;
+
+pub const HELD_WORDS: usize = 1;
+// These are OWNER, IMPL_CLASS and NESTED.
+pub const BY_OWNER: usize = 0;
+
+pub const BY_CLASS: usize = 1;
+
+pub const BY_NESTED: usize = 2;
+
+pub const HELD_COUNT: usize = 3;
+
+pub const SIZE: usize = HELD + HELD_NUMBERS * HELD_COUNT;

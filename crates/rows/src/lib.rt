@@ -1,20 +1,19 @@
 // The rows of the tables (ECMA-335 II.22), read on demand: a column of a row, by the layout that opening made. A layout is a slice of
-// words: the numbers of each column that is read, the two options, and a mark for each column, 1 where it is known to ascend. More
-// words may follow.
+// words: the numbers of each column that is read, the two options, a mark, and where the memories are by which rows are found: these
+// stand behind them, in the same slice.
 pub mod columns;
 
 use buffers::Told;
 use heaps::Part;
 use numbers::wide;
 ghost use mathlib.Core.Path.{_≡_};
-ghost use Prim.Native.Nat.{_<_, _≤_};
-ghost use lib.Dec.{eqb};
+ghost use Prim.Native.Nat.{_+_, _<_, _≤_};
 ghost use lib.ListN.{length};
 ghost use Rattle.buffers.specs.Replies.{nameOr5};
 ghost use Rattle.buffers.specs.Telling.{ToldIs};
 ghost use Rattle.heaps.specs.Lookups.{stringAt, string};
 ghost use Rattle.rows.specs.Columns as columns;
-ghost use Rattle.rows.specs.Layout.{Laid, rowsAt, markAt, cell};
+ghost use Rattle.rows.specs.Layout.{Laid, rowsAt, isMarked, heldStart, heldLength, heldAt, cell};
 
 // How many rows of the table of a column are kept.
 pub fn count_rows(layout: &[u32], column: usize) -> usize
@@ -24,12 +23,27 @@ pub fn count_rows(layout: &[u32], column: usize) -> usize
     wide(layout[columns::NUMBERS * column + columns::ROWS])
 }
 
-// Whether a column is marked: known to ascend.
+// Whether a column is marked: known to ascend. Only METHOD_LIST may be.
 pub fn is_marked(layout: &[u32], column: usize) -> bool
     requires { ⌜ (column < columns.count) × (columns.size ≤ length (now layout)) ⌝ }
-    ensures { λ r. ⌜ r ≡ eqb (markAt (now (layout .entry)) column) 1 ⌝ }
+    ensures { λ r. ⌜ r ≡ isMarked (now (layout .entry)) column ⌝ }
 {
-    layout[columns::MARKS + column] == 1
+    if column != columns::METHOD_LIST {
+        return false;
+    }
+    layout[columns::MARK] == 1
+}
+
+// The memory of number j.
+pub fn memory_at<'a>(layout: &'a [u32], j: usize) -> &'a [u32]
+    requires { ⌜ (j < columns.heldCount) × (columns.size ≤ length (now layout)) ⌝ }
+    requires { ⌜ heldStart (now layout) j + heldLength (now layout) j ≤ length (now layout) ⌝ }
+    ensures { λ r. ⌜ now r ≡ heldAt (now (layout .entry)) j ⌝ }
+{
+    let at = columns::HELD + columns::HELD_NUMBERS * j;
+    let start = wide(layout[at]);
+    let n = wide(layout[at + columns::HELD_WORDS]);
+    &layout[start..start + n]
 }
 
 // The number in a column of row i, from 0.

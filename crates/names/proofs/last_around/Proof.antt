@@ -8,33 +8,17 @@ use Rattle.names.proofs.last_around.Statement.{statement}
 use Rattle.names.proofs.last_around.Tie as tie
 use Rattle.names.proofs.last_around.Reads as reads
 use Rattle.names.proofs.last_around.Lts as lts
-use Rattle.keys.proofs.key_rows.Reads as key-rows-reads
 use Rattle.names.proofs.class_around.Reads as class-around-reads
-use Rattle.names.proofs.least.Reads as least-reads
 
 abbrev Inv-loop : tie.InvT-loop
-Inv-loop tables layout end row first i₀ i = (end ≤ rowsAt layout columns.nested) × Looking tables layout end (row .0) i
+Inv-loop tables layout end row i₀ i = (end ≤ rowsAt layout columns.nested) × Looking tables layout end (row .0) i
 
 abbrev μ-loop : tie.MeasureT-loop
-μ-loop tables layout end row first i₀ i = i
-
--- src/lib.rt:121:69
-cast-key-rows : tie.Need-cast-key-rows Inv-loop μ-loop
-cast-key-rows c = search needs
-
--- src/lib.rt:121:9
-key-rows-requires : tie.Need-key-rows-requires Inv-loop μ-loop
-key-rows-requires c κs = search needs
-
--- src/lib.rt:123:9
-least-requires : tie.Need-least-requires Inv-loop μ-loop
-least-requires c κs = search needs
+μ-loop tables layout end row i₀ i = i
 
 -- src/lib.rt:124:5
 loop-holds : tie.Need-loop-holds Inv-loop μ-loop
-loop-holds c =
-    let start = c .before .before .before .before .before in
-    (start .pre .1, look-start _ _ _ _ (c .before .key-rows .ensures) (start .pre .1) (c .least .ensures))
+loop-holds c = (c .before .before .pre .1, look-start _ _ _ _)
 
 -- src/lib.rt:125:9
 sub-i : tie.Need-sub-i Inv-loop μ-loop
@@ -69,7 +53,7 @@ loop-again c =
 
 -- src/lib.rt:116:1
 returns-2 : tie.Need-returns-2 Inv-loop μ-loop
-returns-2 c = look-end _ _ _ _ (c .before .before .before .key-rows .ensures) (c .before .loop .inv .1) (c .loop-test .left)
+returns-2 c = look-end _ _ _ _ (c .before .loop .inv .1) (c .loop-test .left)
 
 pub last-around-spec : {M : Type 1} → statement M
 last-around-spec =
@@ -77,9 +61,6 @@ last-around-spec =
     (tie.spec
     Inv-loop
     μ-loop
-    cast-key-rows
-    key-rows-requires
-    least-requires
     loop-holds
     sub-i
     class-around-requires

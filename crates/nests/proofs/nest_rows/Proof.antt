@@ -7,9 +7,9 @@ use Rattle.numbers.proofs.Lists.{front-length, front-zero}
 use native.Mathlib.Omega.{arith}
 use Rattle.rows.specs.Columns as columns
 use Rattle.rows.specs.Layout.{rowsAt, cell}
-use Rattle.rows.proofs.Laws.{rows-narrow}
+use Rattle.rows.proofs.Laws.{rows-narrow, same-enclosing}
 use Rattle.nests.specs.Nests.{Nesting}
-use Rattle.nests.proofs.Laws.{nest-small, nest-start, nest-end, same-enclosing}
+use Rattle.nests.proofs.Laws.{nest-small, nest-start, nest-end}
 use Rattle.nests.proofs.nest_rows.Statement.{statement}
 use Rattle.nests.proofs.nest_rows.Tie as tie
 use Rattle.nests.proofs.nest_rows.Reads as reads
@@ -42,7 +42,7 @@ slice-relend-prefix-clear-words : tie.Need-slice-relend-prefix-clear-words Inv-l
 slice-relend-prefix-clear-words c = search needs
 
 slice-aggregate-clear-words : tie.Need-slice-aggregate-clear-words Inv-loop μ-loop
-slice-aggregate-clear-words c = sym (length-take-le _ (c .before .before .before .before .before .args .memory .now) (omega arith))
+slice-aggregate-clear-words c = sym (length-take-le _ (c .before .before .before .before .before .before .args .memory .now) (omega arith))
 
 -- src/lib.rt:62:14
 clear-words-requires : tie.Need-clear-words-requires Inv-loop μ-loop
@@ -51,7 +51,7 @@ clear-words-requires c κs = search needs
 -- src/lib.rt:64:5
 loop-holds : tie.Need-loop-holds Inv-loop μ-loop
 loop-holds c =
-    let start = c .before .before .before .before .before .before .before .before in
+    let start = c .before .before .before .before .before .before .before .before .before in
     let rows = c .before .before .before .before .before .count-rows .ensures in
     let memory = start .args .memory .now in
     let room = length memory - c .before .before .before .before .before .count-rows .result in
@@ -70,7 +70,7 @@ wide-requires c κs = search needs
 -- src/lib.rt:65:36
 read-column-requires-2 : tie.Need-read-column-requires-2 Inv-loop μ-loop
 read-column-requires-2 c κs =
-    let start = c .before .before .before .before .before .before .before .before .before .before .before .before in
+    let start = c .before .before .before .before .before .before .before .before .before .before .before .before .before in
     (start .pre, (omega arith, omega (arith, same-enclosing (start .pre))))
 
 -- src/lib.rt:65:13
@@ -80,7 +80,7 @@ wide-requires-2 c κs = search needs
 -- src/lib.rt:72:9
 nest-row-requires : tie.Need-nest-row-requires Inv-loop μ-loop
 nest-row-requires c κs =
-    let start = c .before .before .before .before .before .before .before .before .before .before .before .before .before .before .before in
+    let start = c .before .before .before .before .before .before .before .before .before .before .before .before .before .before .before .before in
     (omega arith, omega (arith, rows-narrow (start .pre) columns.nested (omega arith)))
 
 -- src/lib.rt:73:9
@@ -105,7 +105,7 @@ loop-again c =
 same-length : tie.Need-same-length Inv-loop μ-loop
 same-length c =
     let cleared = c .before .before .before .before in
-    let start = cleared .before .before .before .before .before .before in
+    let start = cleared .before .before .before .before .before .before .before in
     let memory = start .args .memory .now in
     c .before .loop .inv .3 ∙ front-length memory (length memory - cleared .before .before .before .count-rows .result) (omega arith) (cleared .clear-words .ensures)
 
