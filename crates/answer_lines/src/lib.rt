@@ -114,16 +114,7 @@ pub fn name_line(
         Knows v (now (blob .entry)) (r .known) ⌝ }
 {
     let start = buffers::push(out, at, key);
-    let answered = answers::tell_name(
-        out,
-        start,
-        tables,
-        strings,
-        blob,
-        layout,
-        question,
-        known,
-    );
+    let answered = answers::tell_name(out, start, tables, strings, blob, layout, question, known);
     let told = answered.told;
     let after = answered.known;
     match told {
@@ -133,16 +124,7 @@ pub fn name_line(
                 known: after,
             },
             Ended::Unsure => {
-                let e = end_elsewhere(
-                    out,
-                    start,
-                    tables,
-                    strings,
-                    blob,
-                    layout,
-                    question,
-                    known,
-                );
+                let e = end_elsewhere(out, start, tables, strings, blob, layout, question, known);
                 Onward {
                     step: Step { next: more, at: e },
                     known: after,

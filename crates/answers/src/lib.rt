@@ -234,7 +234,15 @@ pub fn tell_name(
         NameQuestion::ReturnType(c, m) => {
             let placed = places::place_method(tables, layout, c, m, own);
             let row = placed.row;
-            let typed = method_answers::tell_return_type_of(buf, at, tables, strings, blob, layout, row);
+            let typed = method_answers::tell_return_type_of(
+                buf,
+                at,
+                tables,
+                strings,
+                blob,
+                layout,
+                row,
+            );
             let told = typed.told;
             Answered {
                 told,
@@ -245,7 +253,17 @@ pub fn tell_name(
             let placed = places::place_method(tables, layout, c, m, own);
             let row = placed.row;
             let read = known.signature;
-            let typed = method_answers::tell_param_type_of(buf, at, tables, strings, blob, layout, row, p, read);
+            let typed = method_answers::tell_param_type_of(
+                buf,
+                at,
+                tables,
+                strings,
+                blob,
+                layout,
+                row,
+                p,
+                read,
+            );
             let told = typed.told;
             Answered {
                 told,
@@ -256,7 +274,17 @@ pub fn tell_name(
             let placed = places::place_method(tables, layout, c, m, own);
             let row = placed.row;
             let read = known.signature;
-            let typed = method_answers::tell_param_name_of(buf, at, tables, strings, blob, layout, row, p, read);
+            let typed = method_answers::tell_param_name_of(
+                buf,
+                at,
+                tables,
+                strings,
+                blob,
+                layout,
+                row,
+                p,
+                read,
+            );
             let told = typed.told;
             Answered {
                 told,
@@ -278,14 +306,7 @@ pub fn answer_number(
     ensures { λ r. let v = viewIn (now (tables .entry)) (now (layout .entry)) (now (strings .entry)) (now (blob .entry)) in
         ⌜ Numbered (numberAnswer (numberCall question) v) r ⌝ }
 {
-    let counted = reply_number(
-        tables,
-        strings,
-        blob,
-        layout,
-        question,
-        nothing_known(),
-    );
+    let counted = reply_number(tables, strings, blob, layout, question, nothing_known());
     counted.reply
 }
 

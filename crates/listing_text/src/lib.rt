@@ -21,7 +21,7 @@ use rows::columns;
 ghost use mathlib.Core.Path.{_≡_};
 ghost use mathlib.Core.List.{List};
 ghost use Prim.Native.Nat.{ℕ};
-ghost use lib.ListN.{length};
+ghost use lib.ListN.{length, replicate};
 ghost use Rattle.header.specs.Stream.{opened};
 ghost use Rattle.header.specs.declared.Options.{Options as Opts};
 ghost use Rattle.header.specs.declared.Opened.the-variants.{Refused};
@@ -348,54 +348,86 @@ fn end_piece(s: Step, out: &mut [u8]) -> Step
     s
 }
 
-// As many whole lines from a cursor on as the buffer holds, and then zeros. The stream is opened once, and its columns are looked through once.
+// A piece of an opened stream, by memories where the lent words suffice for them.
+fn fill_held(
+    tables: &[u8],
+    strings: &[u8],
+    blob: &[u8],
+    options: Options,
+    layout: &[u32],
+    from: Cursor,
+    work: &mut [u32],
+    out: &mut [u8],
+) -> Step
+    requires { ⌜ Laid (now tables) (now layout) ⌝ }
+    requires { ⌜ ((s b : List ℕ) → viewIn (now tables) (now layout) s b ≡ view options (now tables) s b) ⌝ }
+    ensures { λ r. let v = view options (now (tables .entry)) (now (strings .entry)) (now (blob .entry)) in
+        ⌜ Pieced (pieceOf v (length (now (out .entry))) from) (now (out .entry)) (now (out .exit)) r ⌝ }
+{
+    let known = answers::nothing_known();
+    if work.len() < columns::SIZE {
+        let on = fill_opened(tables, strings, blob, options, layout, from, known, out);
+        return on.step;
+    }
+    holding::hold(work, tables, layout);
+    let on = fill_opened(tables, strings, blob, options, work, from, known, out);
+    on.step
+}
+
+// As many whole lines from a cursor on as the buffer holds, and then zeros. The stream is opened once, and its columns are looked through
+// once. The lent words are there for speed alone: any number of them will do, whatever they hold, and after the call they are zero.
 pub fn fill(
     tables: &[u8],
     strings: &[u8],
     blob: &[u8],
     options: Options,
     from: Cursor,
+    work: &mut [u32],
     out: &mut [u8],
 ) -> Step
     ensures { λ r. let v = view options (now (tables .entry)) (now (strings .entry)) (now (blob .entry)) in
-        ⌜ Filled (pieceOf v (length (now (out .entry))) from) (now (out .entry)) (now (out .exit)) r ⌝ }
+        ⌜ Filled (pieceOf v (length (now (out .entry))) from) (now (out .entry)) (now (out .exit)) r × (now (work .exit) ≡ replicate
+        (length (now (work .entry))) 0) ⌝ }
 {
     let mut layout = [0u32; columns::SIZE];
     match opening::open(tables, options, &mut layout) {
         Opened::Refused(why) => {
+            numbers::clear_words(work);
             let s = fill_refused(why, from, out);
             end_piece(s, out)
         }
         Opened::Ready => {
-            marks::mark_columns(tables, &mut layout);
-            let on = fill_opened(
-                tables,
-                strings,
-                blob,
-                options,
-                &layout,
-                from,
-                answers::nothing_known(),
-                out,
-            );
-            let s = on.step;
+            marks::mark_methods(tables, &mut layout);
+            let s = fill_held(tables, strings, blob, options, &layout, from, work, out);
+            numbers::clear_words(work);
             end_piece(s, out)
         }
     }
 }
 
 // The same over a program's whole input, which is opened anew for each piece.
-pub fn fill_input(input: &[u8], from: Cursor, out: &mut [u8]) -> Step
-    ensures { λ r. ⌜ Filled (inputPiece (now (input .entry)) (length (now (out .entry))) from) (now (out .entry)) (now (out .exit)) r ⌝ }
+pub fn fill_input(input: &[u8], from: Cursor, work: &mut [u32], out: &mut [u8]) -> Step
+    ensures { λ r.
+        ⌜ Filled (inputPiece (now (input .entry)) (length (now (out .entry))) from) (now (out .entry)) (now (out .exit)) r ×
+        (now (work .exit) ≡ replicate (length (now (work .entry))) 0) ⌝ }
 {
     match bundle::open_bundle(input) {
         Bundle::Streams(t, s, b) => {
             let tables = numbers::cut(input, t.at, t.len);
             let strings = numbers::cut(input, s.at, s.len);
             let blob = numbers::cut(input, b.at, b.len);
-            fill(tables, strings, blob, header::base_options(), from, out)
+            fill(
+                tables,
+                strings,
+                blob,
+                header::base_options(),
+                from,
+                work,
+                out,
+            )
         }
         Bundle::Malformed => {
+            numbers::clear_words(work);
             let s = lines::push_refused(out, 0, Refusal::BadInput);
             end_piece(s, out)
         }

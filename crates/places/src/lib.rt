@@ -115,13 +115,7 @@ fn own_method(own: Own, m: u32) -> MethodRow
 }
 
 // The row of method m of a class. Whoever asks for the next method of the class hands on what is known.
-pub fn place_method(
-    tables: &[u8],
-    layout: &[u32],
-    class: ClassNumber,
-    m: u32,
-    known: Own,
-) -> Placed
+pub fn place_method(tables: &[u8], layout: &[u32], class: ClassNumber, m: u32, known: Own) -> Placed
     requires { ⌜ Laid (now tables) (now layout) ⌝ }
     ensures { λ r. let v = viewIn (now (tables .entry)) (now (layout .entry)) in
         ⌜ ((strings blob : List ℕ) → Owns (v strings blob) known → MethodRowIs (v strings blob) (class .0) m (r .row) × Owns

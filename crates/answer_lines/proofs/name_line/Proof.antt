@@ -63,7 +63,7 @@ same-length c = search needs
 
 -- src/lib.rt:96:1
 returns : tie.Need-returns
-returns c = 
+returns c =
     let told = c .before .before .before .before .before .before .before .before .before .before .before .before .before .tell-name .ensures in
     let pushed = c .before .before .before .before .before .before .before .before .before .before .before .before .before .before .before .before .before .push .ensures in
     let x = told-name (rw (c .before .before .before .before .before .before .before .before .told .given .1) at (told .0)) in
@@ -77,7 +77,7 @@ same-length-2 c = search needs
 
 -- src/lib.rt:96:1
 returns-2 : tie.Need-returns-2
-returns-2 c = 
+returns-2 c =
     let told = c .before .before .before .before .before .before .before .before .before .before .before .before .before .before .before .before .tell-name .ensures in
     let pushed = c .before .before .before .before .before .before .before .before .before .before .before .before .before .before .before .before .before .before .before .before .push .ensures in
     let x = told-name (rw (c .before .before .before .before .before .before .before .before .before .before .before .told .given .1) at (told .0)) in
@@ -91,7 +91,7 @@ same-length-3 c = search needs
 
 -- src/lib.rt:96:1
 returns-3 : tie.Need-returns-3
-returns-3 c = 
+returns-3 c =
     let told = c .before .before .before .before .before .before .before .before .before .tell-name .ensures in
     let pushed = c .before .before .before .before .before .before .before .before .before .before .before .before .before .push .ensures in
     let x = told-missing (rw (c .before .before .before .before .enum-told2 .given .1) at (told .0)) in
@@ -104,7 +104,7 @@ same-length-4 c = search needs
 
 -- src/lib.rt:96:1
 returns-4 : tie.Need-returns-4
-returns-4 c = 
+returns-4 c =
     let told = c .before .before .before .before .before .before .before .before .before .tell-name .ensures in
     let pushed = c .before .before .before .before .before .before .before .before .before .before .before .before .before .push .ensures in
     let x = told-no-row (rw (c .before .before .before .before .enum-told3 .given .1) at (told .0)) in

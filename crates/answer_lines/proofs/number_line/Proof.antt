@@ -20,7 +20,7 @@ same-length c = search needs
 
 -- src/lib.rt:34:1
 returns : tie.Need-returns
-returns c = 
+returns c =
     let counted = c .before .before .before .before .before .reply-number .ensures in
     (rw (counted .0) at (c .before .before .number-step .ensures), counted .1)
 

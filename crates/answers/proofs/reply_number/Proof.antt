@@ -105,7 +105,7 @@ with-own-requires-3 c κs = search needs
 
 -- src/lib.rt:97:1
 returns : tie.Need-returns
-returns c = 
+returns c =
     let start = c .before .before .before .before .before .before .before .before in
     (rw (c .before .enum-told .given .1) (class-counted (start .pre .0) _ _ (c .count-classes .ensures)), start .pre .1)
 
@@ -127,21 +127,21 @@ returns-5 c = (rw (c .before .before .question4 .given .1) (c .count-methods-of 
 
 -- src/lib.rt:97:1
 returns-6 : tie.Need-returns-6
-returns-6 c = 
+returns-6 c =
     let start = c .before .before .before .before .before .before .before .before .before .before .before in
     let place = c .before .before .place-method .ensures (start .args .strings .now) (start .args .blob .now) (start .pre .1 .own) in
     (rw (c .before .before .before .before .question5 .given .1) (c .before .method-flags-of .ensures _ _ _ _ (place .0)), c .with-own .ensures _ _ (start .pre .1) (place .1))
 
 -- src/lib.rt:97:1
 returns-7 : tie.Need-returns-7
-returns-7 c = 
+returns-7 c =
     let start = c .before .before .before .before .before .before .before .before .before .before .before in
     let place = c .before .before .place-method2 .ensures (start .args .strings .now) (start .args .blob .now) (start .pre .1 .own) in
     (rw (c .before .before .before .before .question6 .given .1) (c .before .count-method-generics-of .ensures _ _ _ _ (place .0)), c .with-own2 .ensures _ _ (start .pre .1) (place .1))
 
 -- src/lib.rt:97:1
 returns-8 : tie.Need-returns-8
-returns-8 c = 
+returns-8 c =
     let start = c .before .before .before .before .before .before .before .before .before .before .before in
     let place = c .before .before .place-method3 .ensures (start .args .strings .now) (start .args .blob .now) (start .pre .1 .own) in
     (rw (c .before .before .before .before .question7 .given .1) (c .before .count-params-of .ensures _ _ (place .0)), c .with-own3 .ensures _ _ (start .pre .1) (place .1))

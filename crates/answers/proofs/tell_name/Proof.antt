@@ -146,7 +146,7 @@ same-length-3 c = search needs
 
 -- src/lib.rt:163:1
 returns-3 : tie.Need-returns-3
-returns-3 c = 
+returns-3 c =
     let told = c .before .before .before .tell-base-name .ensures in
     (rw (c .before .before .before .before .before .before .before .question3 .given .1) (told .0), c .with-bases .ensures _ _ (c .before .before .before .before .before .before .before .before .before .before .before .before .before .before .before .pre .1) (told .1))
 
@@ -156,7 +156,7 @@ same-length-4 c = search needs
 
 -- src/lib.rt:163:1
 returns-4 : tie.Need-returns-4
-returns-4 c = 
+returns-4 c =
     let start = c .before .before .before .before .before .before .before .before .before .before .before .before .before .before .before in
     let place = c .before .before .before .before .before .place-method .ensures (start .args .strings .now) (start .args .blob .now) (start .pre .1 .own) in
     (rw (c .before .before .before .before .before .before .before .question4 .given .1) (c .before .before .before .tell-method-name .ensures _ _ _ (place .0)), c .with-own .ensures _ _ (start .pre .1) (place .1))
@@ -167,7 +167,7 @@ same-length-5 c = search needs
 
 -- src/lib.rt:163:1
 returns-5 : tie.Need-returns-5
-returns-5 c = 
+returns-5 c =
     let start = c .before .before .before .before .before .before .before .before .before .before .before .before .before .before .before in
     let place = c .before .before .before .before .before .place-method2 .ensures (start .args .strings .now) (start .args .blob .now) (start .pre .1 .own) in
     (rw (c .before .before .before .before .before .before .before .question5 .given .1) (c .before .before .before .tell-method-generic-name .ensures _ _ _ (place .0)), c .with-own2 .ensures _ _ (start .pre .1) (place .1))
@@ -178,7 +178,7 @@ same-length-6 c = search needs
 
 -- src/lib.rt:163:1
 returns-6 : tie.Need-returns-6
-returns-6 c = 
+returns-6 c =
     let start = c .before .before .before .before .before .before .before .before .before .before .before .before .before .before .before in
     let place = c .before .before .before .before .before .place-method3 .ensures (start .args .strings .now) (start .args .blob .now) (start .pre .1 .own) in
     let told = c .before .before .before .tell-return-type-of .ensures in
@@ -190,7 +190,7 @@ same-length-7 c = search needs
 
 -- src/lib.rt:163:1
 returns-7 : tie.Need-returns-7
-returns-7 c = 
+returns-7 c =
     let start = c .before .before .before .before .before .before .before .before .before .before .before .before .before .before .before .before in
     let place = c .before .before .before .before .before .before .place-method4 .ensures (start .args .strings .now) (start .args .blob .now) (start .pre .1 .own) in
     let told = c .before .before .before .tell-param-type-of .ensures in
@@ -202,7 +202,7 @@ same-length-8 c = search needs
 
 -- src/lib.rt:163:1
 returns-8 : tie.Need-returns-8
-returns-8 c = 
+returns-8 c =
     let start = c .before .before .before .before .before .before .before .before .before .before .before .before .before .before .before .before in
     let place = c .before .before .before .before .before .before .place-method5 .ensures (start .args .strings .now) (start .args .blob .now) (start .pre .1 .own) in
     let told = c .before .before .before .tell-param-name-of .ensures in

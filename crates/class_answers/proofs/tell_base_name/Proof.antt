@@ -22,7 +22,7 @@ enum-known-row c = search needs
 
 -- src/lib.rt:152:17
 push-base-requires : tie.Need-push-base-requires
-push-base-requires c κs = 
+push-base-requires c κs =
     let start = c .before .before .before .before .before .before .before .before .before .before in
     let at = class-found (c .before .before .before .before .class-row .ensures) (c .before .before .row .given .1) in
     (start .pre .0, ((omega (arith, at .0), omega (arith, at .0, at .1)), start .pre .1))
@@ -41,7 +41,7 @@ same-length c = search needs
 
 -- src/lib.rt:133:1
 returns : tie.Need-returns
-returns c = 
+returns c =
     let start = c .before .before .before .before .before .before .before .before .before .before .before .before .before .before .before in
     let pushed = c .before .before .before .before .push-base .ensures in (
       class-base (start .pre .0) _ _ _ (class-found (c .before .before .before .before .before .before .before .before .before .class-row .ensures) (c .before .before .before .before .before .before .before .row .given .1)) _ (c .told-base .ensures _ _ _ _ (pushed .0)),
@@ -50,7 +50,7 @@ returns c =
 
 -- src/lib.rt:133:1
 returns-2 : tie.Need-returns-2
-returns-2 c = 
+returns-2 c =
     let start = c .before .before .before .before .before .before .before .before in
     (no-class-base (start .pre .0) _ _ _ (class-missed (c .before .before .class-row .ensures) (c .enum-told .given .1)) _ _ _, start .pre .1)
 

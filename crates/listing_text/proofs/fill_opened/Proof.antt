@@ -14,7 +14,7 @@ use Rattle.listing_text.proofs.is_done.Reads as is-done-reads
 use Rattle.listing_text.proofs.next_line.Reads as next-line-reads
 
 abbrev Inv-loop : tie.InvT-loop
-Inv-loop tables strings blob options layout out₀ c₀ k₀ at₀ steps₀ out c k at steps = 
+Inv-loop tables strings blob options layout out₀ c₀ k₀ at₀ steps₀ out c k at steps =
     Going (view options tables strings blob) (pieceOf (view options tables strings blob) (length out₀) c₀) out₀ out c at steps
     × Knows (viewIn tables layout strings blob) blob k
 
@@ -60,9 +60,9 @@ loop-less c = search needs
 -- src/lib.rt:285:5
 loop-again : tie.Need-loop-again Inv-loop μ-loop
 loop-again c = (
-      going-on (c .before .before .before .before .before .before .before .before .before .before .before .loop .inv .0) (c .before .before .before .before .before .before .next-line .ensures .0) (c .before .before .before .before .before .before .before .before .before .before .loop-test .taken) (c .before .before .before .before .before .before .before .before .before .is-done .ensures) (c .before .before .before .before .before .before .before .before .if1 .left) (c .before .before .if2 .left),
-      c .before .before .before .before .before .before .next-line .ensures .1,
-    )
+  going-on (c .before .before .before .before .before .before .before .before .before .before .before .loop .inv .0) (c .before .before .before .before .before .before .next-line .ensures .0) (c .before .before .before .before .before .before .before .before .before .before .loop-test .taken) (c .before .before .before .before .before .before .before .before .before .is-done .ensures) (c .before .before .before .before .before .before .before .before .if1 .left) (c .before .before .if2 .left),
+  c .before .before .before .before .before .before .next-line .ensures .1,
+)
 
 -- src/lib.rt:264:1
 same-length-3 : tie.Need-same-length-3 Inv-loop μ-loop
