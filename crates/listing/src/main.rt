@@ -1,38 +1,129 @@
-// Lists the classes of the input, as document 01 gives it: standard input holds the three streams, and standard output gets the listing.
-// Where it cannot be written the program stops there, and says so on standard error.
+// Lists the classes of the input, as document 01 gives it: standard input holds the three streams, and standard output gets the listing,
+// piece by piece; what is known after one goes to the next. Where it cannot be written the program stops there, and says so on standard
+// error.
+use answers::Known;
+use buffers::Refusal;
+use bundle::Bundle;
+use header::Opened;
+use header::Options;
 use lines::Cursor;
+use rows::columns;
+ghost use mathlib.Core.Path.{_≡_};
+ghost use mathlib.Core.List.{List};
+ghost use Prim.Native.Nat.{ℕ};
+ghost use Rattle.record.specs.View.{view};
+ghost use Rattle.rows.specs.Layout.{Laid, viewIn};
+ghost use Rattle.answers.specs.Known.{Knows};
 
-// Where the listing goes on after a piece, and whether the piece was written.
+// Words for the layout, and for the rows by key of every input that the program takes.
+const WORDS: usize = 19_000;
+
+// Where the listing goes on after a piece, what is known, and whether the piece was written.
 struct Written {
     next: Cursor,
+    known: Known,
     whole: bool,
 }
 
+// Writes a refusal, which is the whole listing.
+fn write_refused(why: Refusal) -> bool {
+    let mut space = [0u8; 32];
+    let step = lines::push_refused(&mut space, 0, why);
+    io::write_all(1, numbers::cut(&space, 0, step.at))
+}
+
 // Writes one piece of the listing, as much as a buffer holds.
-fn write_piece(input: &[u8], from: Cursor) -> Written {
+fn write_piece(
+    tables: &[u8],
+    strings: &[u8],
+    blob: &[u8],
+    options: Options,
+    layout: &[u32],
+    from: Cursor,
+    known: Known,
+) -> Written
+    requires { ⌜ Laid (now tables) (now layout) ⌝ }
+    requires { ⌜ ((s b : List ℕ) → viewIn (now tables) (now layout) s b ≡ view options (now tables) s b) ⌝ }
+    requires { ⌜ Knows (viewIn (now tables) (now layout) (now strings) (now blob)) (now blob) known ⌝ }
+    ensures { λ r. let v = viewIn (now (tables .entry)) (now (layout .entry)) (now (strings .entry)) (now (blob .entry)) in
+        ⌜ Knows v (now (blob .entry)) (r .known) ⌝ }
+{
     let mut space = io::large_buffer();
-    let piece = listing_text::fill_input(input, from, &mut space);
-    let next = piece.next;
-    let whole = io::write_all(1, numbers::cut(&space, 0, piece.at));
-    Written { next, whole }
+    let on = listing_text::fill_opened(
+        tables,
+        strings,
+        blob,
+        options,
+        layout,
+        from,
+        known,
+        &mut space,
+    );
+    let step = on.step;
+    let next = step.next;
+    let after = on.known;
+    let whole = io::write_all(1, numbers::cut(&space, 0, step.at));
+    Written {
+        next,
+        known: after,
+        whole,
+    }
 }
 
 // Every piece, and whether all were written. No listing has as many as the loop has turns.
-fn write_listing(input: &[u8]) -> bool {
+fn write_pieces(
+    tables: &[u8],
+    strings: &[u8],
+    blob: &[u8],
+    options: Options,
+    layout: &[u32],
+) -> bool
+    requires { ⌜ Laid (now tables) (now layout) ⌝ }
+    requires { ⌜ ((s b : List ℕ) → viewIn (now tables) (now layout) s b ≡ view options (now tables) s b) ⌝ }
+{
     let mut cursor = lines::first_cursor();
+    let mut known = answers::nothing_known();
     let mut turns: u64 = 0xFFFF_FFFF_FFFF_FFFF;
     while 0 < turns {
         if listing_text::is_done(cursor) {
             return true;
         }
-        let written = write_piece(input, cursor);
+        let written = write_piece(tables, strings, blob, options, layout, cursor, known);
         if !written.whole {
             return false;
         }
         cursor = written.next;
+        known = written.known;
         turns -= 1;
     }
     false
+}
+
+// The listing of three streams. The stream is opened once, and its columns are looked through once.
+fn write_streams(tables: &[u8], strings: &[u8], blob: &[u8]) -> bool {
+    let options = header::base_options();
+    let mut layout = [0u32; columns::SIZE];
+    match opening::open(tables, options, &mut layout) {
+        Opened::Refused(why) => write_refused(why),
+        Opened::Ready => {
+            marks::mark_methods(tables, &mut layout);
+            let mut work = [0u32; WORDS];
+            holding::hold(&mut work, tables, &layout);
+            write_pieces(tables, strings, blob, options, &work)
+        }
+    }
+}
+
+fn write_listing(input: &[u8]) -> bool {
+    match bundle::open_bundle(input) {
+        Bundle::Streams(t, s, b) => {
+            let tables = numbers::cut(input, t.at, t.len);
+            let strings = numbers::cut(input, s.at, s.len);
+            let blob = numbers::cut(input, b.at, b.len);
+            write_streams(tables, strings, blob)
+        }
+        Bundle::Malformed => write_refused(Refusal::BadInput),
+    }
 }
 
 fn main() {

@@ -1,0 +1,79 @@
+use borrow.Author.Needs.{needs}
+use Rattle.rows.specs.Layout.{viewIn}
+use Rattle.answers.specs.Known.{Knows}
+use Rattle.listing.proofs.write_pieces.Statement.{statement}
+use Rattle.listing.proofs.write_pieces.Tie as tie
+use Rattle.listing.proofs.write_pieces.Reads as reads
+use Rattle.listing.proofs.write_pieces.Lts as lts
+use Rattle.answers.proofs.nothing_known.Reads as nothing-known-reads
+use Rattle.lines.proofs.first_cursor.Reads as first-cursor-reads
+use Rattle.listing.proofs.write_piece.Reads as write-piece-reads
+use Rattle.listing_text.proofs.is_done.Reads as is-done-reads
+
+abbrev Inv-loop : tie.InvT-loop
+Inv-loop tables strings blob options layout cursor₀ known₀ turns₀ cursor known turns = Knows (viewIn tables layout strings blob) blob known
+
+abbrev μ-loop : tie.MeasureT-loop
+μ-loop tables strings blob options layout cursor₀ known₀ turns₀ cursor known turns = turns
+
+-- src/main.rt:84:9
+first-cursor-requires : tie.Need-first-cursor-requires Inv-loop μ-loop
+first-cursor-requires c κs = search needs
+
+-- src/main.rt:85:9
+nothing-known-requires : tie.Need-nothing-known-requires Inv-loop μ-loop
+nothing-known-requires c κs = search needs
+
+-- src/main.rt:87:5
+loop-holds : tie.Need-loop-holds Inv-loop μ-loop
+loop-holds c = c .nothing-known .ensures _ _
+
+-- src/main.rt:88:12
+is-done-requires : tie.Need-is-done-requires Inv-loop μ-loop
+is-done-requires c κs = search needs
+
+-- src/main.rt:89:13
+returns : tie.Need-returns Inv-loop μ-loop
+returns c = tt
+
+-- src/main.rt:91:13
+write-piece-requires : tie.Need-write-piece-requires Inv-loop μ-loop
+write-piece-requires c κs = (c .before .before .before .before .before .before .before .before .before .before .pre .0, (c .before .before .before .before .before .before .before .before .before .before .pre .1, c .before .before .before .loop .inv))
+
+-- src/main.rt:93:13
+returns-2 : tie.Need-returns-2 Inv-loop μ-loop
+returns-2 c = tt
+
+-- src/main.rt:97:9
+sub-turns : tie.Need-sub-turns Inv-loop μ-loop
+sub-turns c = search needs
+
+-- src/main.rt:87:5
+loop-less : tie.Need-loop-less Inv-loop μ-loop
+loop-less c = search needs
+
+-- src/main.rt:87:5
+loop-again : tie.Need-loop-again Inv-loop μ-loop
+loop-again c = c .before .before .before .before .write-piece .ensures
+
+-- src/main.rt:74:1
+returns-3 : tie.Need-returns-3 Inv-loop μ-loop
+returns-3 c = tt
+
+pub write-pieces-spec : {M : Type 1} → statement M
+write-pieces-spec =
+    tie.close
+    (tie.spec
+    Inv-loop
+    μ-loop
+    first-cursor-requires
+    nothing-known-requires
+    loop-holds
+    is-done-requires
+    returns
+    write-piece-requires
+    returns-2
+    sub-turns
+    loop-less
+    loop-again
+    returns-3)
