@@ -92,13 +92,7 @@ fn count_scanned(tables: &[u8], layout: &[u32], column: usize, key: usize) -> us
 }
 
 // The same by the memory of the column; the rows of a key for which it has no room are counted one by one.
-fn count_sorted(
-    memory: &[u32],
-    tables: &[u8],
-    layout: &[u32],
-    column: usize,
-    key: usize,
-) -> usize
+fn count_sorted(memory: &[u32], tables: &[u8], layout: &[u32], column: usize, key: usize) -> usize
     requires { ⌜ Laid (now tables) (now layout) ⌝ }
     requires { ⌜ column < columns.count ⌝ }
     requires { ⌜ Sorted (cell (now tables) (now layout) column) (rowsAt (now layout) column) (now memory) ⌝ }

@@ -82,10 +82,11 @@ loop-again c =
     let put = c .before .before .before .before .before in
     let named = put .before .before .before in
     let outer = named .before .before .before .before in
-    let around = outer .before .before in
-    (pass-in _ _ _ (around .before .before .loop .inv .0) (around .next-outer .ensures) (outer .outer .given .1)
-    _ (shown-at (named .before .before .class-own-name .ensures) (named .start .given .1) .0) (placed-from _ (put .put-dotted .ensures) (c .before .q .given .1)),
-    λ z h. encloses _ _ _ _ (around .next-outer .ensures) (outer .outer .given .1))
+    let around = outer .before .before in (
+      pass-in _ _ _ (around .before .before .loop .inv .0) (around .next-outer .ensures) (outer .outer .given .1)
+          _ (shown-at (named .before .before .class-own-name .ensures) (named .start .given .1) .0) (placed-from _ (put .put-dotted .ensures) (c .before .q .given .1)),
+      λ z h. encloses _ _ _ _ (around .next-outer .ensures) (outer .outer .given .1),
+    )
 
 -- src/lib.rt:179:25
 enum-told : tie.Need-enum-told Inv-loop μ-loop
