@@ -30,10 +30,14 @@ fn read_front(file: i32, buffer: &mut [u8], n: usize) -> bool {
     io::read_full(file, &mut buffer[..n]) == n
 }
 
+// Words for the layout, and for the rows by key.
+const WORDS: usize = 19_000;
+
 // Holds a piece of the listing against as many bytes of the file.
 fn compare_piece(file: i32, input: &[u8], from: Cursor, left: usize) -> Compared {
     let mut text = io::large_buffer();
-    let piece = listing_text::fill_input(input, from, &mut text);
+    let mut work = [0u32; WORDS];
+    let piece = listing_text::fill_input(input, from, &mut work, &mut text);
     let next = piece.next;
     let n = piece.at;
     if left < n {
