@@ -12,8 +12,8 @@ use Rattle.lines.specs.declared.Place.{Place}
 use Rattle.lines.specs.declared.Place.the-variants.{Stop, Classes, Class, Flags, Generic, Base, Method, MethodFlags, MethodGeneric, Returns, ParamType, ParamName, Done}
 use Rattle.lines.specs.declared.Cursor.{Cursor}
 use Rattle.lines.specs.declared.Step.{Step}
-use Rattle.listing_text.specs.Filling.{Piece, pieceOf, Filled}
-use Rattle.listing_text.proofs.Filling.{piece-fits}
+use Rattle.listing_steps.specs.Filling.{Piece, pieceOf, Filled}
+use Rattle.listing_steps.proofs.Filling.{piece-fits}
 use Rattle.c_listing.specs.Told.{placeNumber, numberedPlaces, placeOf, CursorsReturn, toldStep, ToldPiece}
 use Rattle.c_listing.specs.declared.DnPiece.{DnPiece}
 

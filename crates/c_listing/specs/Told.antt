@@ -11,7 +11,7 @@ use Rattle.lines.specs.declared.Place.{Place}
 use Rattle.lines.specs.declared.Place.the-variants.{Stop, Classes, Class, Flags, Generic, Base, Method, MethodFlags, MethodGeneric, Returns, ParamType, ParamName, Done}
 use Rattle.lines.specs.declared.Cursor.{Cursor}
 use Rattle.lines.specs.declared.Step.{Step}
-use Rattle.listing_text.specs.Filling.{isDone, Piece}
+use Rattle.listing_steps.specs.Filling.{isDone, Piece}
 use Rattle.c_listing.specs.declared.DnCursor.{DnCursor}
 use Rattle.c_listing.specs.declared.DnPiece.{DnPiece}
 

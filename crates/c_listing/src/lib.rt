@@ -6,7 +6,7 @@ use lines::Step;
 ghost use mathlib.Core.Path.{_≡_};
 ghost use lib.ListN.{length};
 ghost use Rattle.record.specs.View.{view};
-ghost use Rattle.listing_text.specs.Filling.{pieceOf};
+ghost use Rattle.listing_steps.specs.Filling.{pieceOf};
 ghost use Rattle.c_questions.specs.Asked.{optionsOf};
 ghost use Rattle.c_listing.specs.Told.{placeNumber, placeOf, cursorOf, toldCursor, toldStep, ToldPiece};
 
@@ -97,7 +97,7 @@ fn told_step(step: Step) -> DnPiece
     let used = step.at;
     let to = step.next;
     let next = told_cursor(to);
-    if listing_text::is_done(to) {
+    if listing_steps::is_done(to) {
         return DnPiece {
             used,
             done: 1,

@@ -13,7 +13,7 @@ ghost use Rattle.tables.specs.Extents.{walkOf};
 ghost use Rattle.record.specs.View.{view};
 ghost use Rattle.record.specs.Answers.{classCount, classFlags, className, genericCount, genericName, baseCount, baseName, methodCount, methodFlags, methodName, methodGenericCount, methodGenericName, returnType, parameterCount, parameterType, parameterName};
 ghost use lib.ListN.{length};
-ghost use Rattle.listing_text.specs.Filling.{pieceOf};
+ghost use Rattle.listing_steps.specs.Filling.{pieceOf};
 ghost use Rattle.c_replies.specs.Told.{theVersion, told, ToldName, toldLookup, toldExtent};
 ghost use Rattle.c_questions.specs.Asked.{optionsOf, numberAsked, nameAsked, askedNumber, askedName};
 ghost use Rattle.c_listing.specs.Told.{cursorOf, ToldPiece};

@@ -49,7 +49,7 @@ fn write_piece(
         ⌜ Knows v (now (blob .entry)) (r .known) ⌝ }
 {
     let mut space = io::large_buffer();
-    let on = listing_text::fill_opened(
+    let on = listing_steps::fill_opened(
         tables,
         strings,
         blob,
@@ -85,7 +85,7 @@ fn write_pieces(
     let mut known = answers::nothing_known();
     let mut turns: u64 = 0xFFFF_FFFF_FFFF_FFFF;
     while 0 < turns {
-        if listing_text::is_done(cursor) {
+        if listing_steps::is_done(cursor) {
             return true;
         }
         let written = write_piece(tables, strings, blob, options, layout, cursor, known);

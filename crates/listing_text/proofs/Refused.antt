@@ -29,8 +29,8 @@ use Rattle.lines.specs.declared.Place.the-variants as at
 use Rattle.lines.specs.declared.Cursor.{Cursor}
 use Rattle.lines.specs.declared.Step.{Step}
 use Rattle.lines.proofs.Place.{the-type}
-use Rattle.listing_text.specs.Filling.{isDone, Piece, pieceFrom, pieceOf, mostSteps, Pieced}
-use Rattle.listing_text.proofs.Filling.{at-place, is-done, goes-on, going-start, going-done, going-full, going-on}
+use Rattle.listing_steps.specs.Filling.{isDone, Piece, pieceFrom, pieceOf, mostSteps, Pieced}
+use Rattle.listing_steps.proofs.Filling.{at-place, is-done, goes-on, going-start, going-done, going-full, going-on}
 
 -- Opening refuses by 1, 2 or 3.
 by-tests : (short cut over : Bool) (h : Header) {why : Refusal} → h .answer ≡ Ready

@@ -16,7 +16,7 @@ use Rattle.record.specs.Rearrangement.{Rearranged}
 use Rattle.record.specs.Answers.{_⟫_}
 use Rattle.record.proofs.Demand.{rearrangement-survives}
 use Rattle.lines.specs.Listing.{orRefused, listing, listingOf}
-use Rattle.listing_text.specs.Filling.{pieceOf, answerPiece, inputPiece}
+use Rattle.listing_steps.specs.Filling.{pieceOf, answerPiece, inputPiece}
 use Rattle.listing_whole.specs.Alike.{ListingsAlike, PiecesAlike, InputsAlike}
 
 pub listings-alike : ListingsAlike

@@ -24,8 +24,8 @@ use Rattle.lines.specs.Cursors.{first, done, lineAt, nextAt}
 use Rattle.lines.specs.declared.Place.{Place}
 use Rattle.lines.specs.declared.Place.the-variants.{Stop, Classes, Class, Flags, Generic, Base, Method, MethodFlags, MethodGeneric, Returns, ParamType, ParamName, Done}
 use Rattle.lines.specs.declared.Cursor.{Cursor}
-use Rattle.listing_text.specs.Filling.{isDone, Piece, pieceFrom, pieceOf, mostSteps, answerPiece, inputPiece}
-use Rattle.listing_text.proofs.Filling.{is-done, is-full, goes-on, piece-fits}
+use Rattle.listing_steps.specs.Filling.{isDone, Piece, pieceFrom, pieceOf, mostSteps, answerPiece, inputPiece}
+use Rattle.listing_steps.proofs.Filling.{is-done, is-full, goes-on, piece-fits}
 use Rattle.listing_whole.specs.Whole.{Whole, written, PiecesFit, Begun, WrittenBegins, Bytes, longestLine, mostPieces, Ended, WrittenWhole, PiecesWhole, Stays, LongLineStays, WrittenStays}
 use Rattle.listing_whole.proofs.Whole.{Within, stay, go, the-steps, fewer, then, FewIn, listingSteps, listed}
 use Rattle.listing_whole.proofs.Few.{few-in}

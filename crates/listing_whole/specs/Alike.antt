@@ -9,7 +9,7 @@ use Rattle.record.specs.View.{view}
 use Rattle.record.specs.Rearrangement.{Rearranged}
 use Rattle.lines.specs.Listing.{listing, listingOf}
 use Rattle.lines.specs.declared.Cursor.{Cursor}
-use Rattle.listing_text.specs.Filling.{pieceOf, inputPiece}
+use Rattle.listing_steps.specs.Filling.{pieceOf, inputPiece}
 
 -- The whole listing.
 abbrev pub ListingsAlike : Type 0

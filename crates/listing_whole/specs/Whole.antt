@@ -14,7 +14,7 @@ use Rattle.lines.specs.Lines.{longest, refusedLine}
 use Rattle.lines.specs.Listing.{listing, listingOf}
 use Rattle.lines.specs.Cursors.{first, done, lineAt, Steps}
 use Rattle.lines.specs.declared.Cursor.{Cursor}
-use Rattle.listing_text.specs.Filling.{isDone, Piece, pieceOf, inputPiece}
+use Rattle.listing_steps.specs.Filling.{isDone, Piece, pieceOf, inputPiece}
 
 -- Line by line.
 abbrev pub Whole : Type 0

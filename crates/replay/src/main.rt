@@ -83,7 +83,7 @@ fn compare_listing(file: i32, input: &[u8], expected: usize) -> Outcome {
         if !compared.same {
             break;
         }
-        if listing_text::is_done(cursor) {
+        if listing_steps::is_done(cursor) {
             if left == 0 {
                 return Outcome::Agreed;
             }

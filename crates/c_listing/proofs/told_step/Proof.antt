@@ -5,7 +5,7 @@ use Rattle.c_listing.proofs.told_step.Tie as tie
 use Rattle.c_listing.proofs.told_step.Reads as reads
 use Rattle.c_listing.proofs.told_step.Lts as lts
 use Rattle.c_listing.proofs.told_cursor.Reads as told-cursor-reads
-use Rattle.listing_text.proofs.is_done.Reads as is-done-reads
+use Rattle.listing_steps.proofs.is_done.Reads as is-done-reads
 
 -- src/lib.rt:99:16
 told-cursor-requires : tie.Need-told-cursor-requires

@@ -8,7 +8,7 @@ use Rattle.listing.proofs.write_pieces.Lts as lts
 use Rattle.answers.proofs.nothing_known.Reads as nothing-known-reads
 use Rattle.lines.proofs.first_cursor.Reads as first-cursor-reads
 use Rattle.listing.proofs.write_piece.Reads as write-piece-reads
-use Rattle.listing_text.proofs.is_done.Reads as is-done-reads
+use Rattle.listing_steps.proofs.is_done.Reads as is-done-reads
 
 abbrev Inv-loop : tie.InvT-loop
 Inv-loop tables strings blob options layout cursor₀ known₀ turns₀ cursor known turns = Knows (viewIn tables layout strings blob) blob known

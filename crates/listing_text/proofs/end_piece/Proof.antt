@@ -1,4 +1,4 @@
-use Rattle.listing_text.proofs.Filling.{piece-ended}
+use Rattle.listing_steps.proofs.Filling.{piece-ended}
 use borrow.Author.Needs.{needs}
 use Rattle.listing_text.proofs.end_piece.Statement.{statement}
 use Rattle.listing_text.proofs.end_piece.Tie as tie

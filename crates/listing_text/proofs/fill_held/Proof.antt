@@ -8,7 +8,7 @@ use Rattle.listing_text.proofs.fill_held.Reads as reads
 use Rattle.listing_text.proofs.fill_held.Lts as lts
 use Rattle.answers.proofs.nothing_known.Reads as nothing-known-reads
 use Rattle.holding.proofs.hold.Reads as hold-reads
-use Rattle.listing_text.proofs.fill_opened.Reads as fill-opened-reads
+use Rattle.listing_steps.proofs.fill_opened.Reads as fill-opened-reads
 
 -- src/lib.rt:367:9
 nothing-known-requires : tie.Need-nothing-known-requires

@@ -1,7 +1,7 @@
 use mathlib.Core.Path.{sym, _∙_}
 use Rattle.numbers.proofs.Parts.{cut-is}
 use Rattle.bundle.proofs.Input.{streams-within}
-use Rattle.listing_text.proofs.Filling.{input-malformed, input-streams}
+use Rattle.listing_steps.proofs.Filling.{input-malformed, input-streams}
 use borrow.Author.Needs.{needs}
 use Rattle.listing_text.proofs.fill_input.Statement.{statement}
 use Rattle.listing_text.proofs.fill_input.Tie as tie

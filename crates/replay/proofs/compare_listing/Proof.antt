@@ -4,7 +4,7 @@ use Rattle.replay.proofs.compare_listing.Tie as tie
 use Rattle.replay.proofs.compare_listing.Reads as reads
 use Rattle.replay.proofs.compare_listing.Lts as lts
 use Rattle.lines.proofs.first_cursor.Reads as first-cursor-reads
-use Rattle.listing_text.proofs.is_done.Reads as is-done-reads
+use Rattle.listing_steps.proofs.is_done.Reads as is-done-reads
 use Rattle.replay.proofs.compare_piece.Reads as compare-piece-reads
 use Rattle.replay.proofs.pass_over.Reads as pass-over-reads
 

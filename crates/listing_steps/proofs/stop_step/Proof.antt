@@ -1,9 +1,9 @@
 use Rattle.lines.proofs.Stepping.{stop-found, stop-refused}
 use borrow.Author.Needs.{needs}
-use Rattle.listing_text.proofs.stop_step.Statement.{statement}
-use Rattle.listing_text.proofs.stop_step.Tie as tie
-use Rattle.listing_text.proofs.stop_step.Reads as reads
-use Rattle.listing_text.proofs.stop_step.Lts as lts
+use Rattle.listing_steps.proofs.stop_step.Statement.{statement}
+use Rattle.listing_steps.proofs.stop_step.Tie as tie
+use Rattle.listing_steps.proofs.stop_step.Reads as reads
+use Rattle.listing_steps.proofs.stop_step.Lts as lts
 use Rattle.lines.proofs.cursor_at.Reads as cursor-at-reads
 use Rattle.lines.proofs.push_number.Reads as push-number-reads
 use Rattle.lines.proofs.push_refused.Reads as push-refused-reads

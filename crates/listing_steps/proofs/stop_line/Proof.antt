@@ -1,10 +1,10 @@
 use Rattle.lines.proofs.Stepping.{stop-goes}
 use borrow.Author.Needs.{needs}
-use Rattle.listing_text.proofs.stop_line.Statement.{statement}
-use Rattle.listing_text.proofs.stop_line.Tie as tie
-use Rattle.listing_text.proofs.stop_line.Reads as reads
-use Rattle.listing_text.proofs.stop_line.Lts as lts
-use Rattle.listing_text.proofs.stop_step.Reads as stop-step-reads
+use Rattle.listing_steps.proofs.stop_line.Statement.{statement}
+use Rattle.listing_steps.proofs.stop_line.Tie as tie
+use Rattle.listing_steps.proofs.stop_line.Reads as reads
+use Rattle.listing_steps.proofs.stop_line.Lts as lts
+use Rattle.listing_steps.proofs.stop_step.Reads as stop-step-reads
 use Rattle.walks.proofs.walk_with.Reads as walk-with-reads
 
 -- src/lib.rt:52:9

@@ -4,14 +4,14 @@ use borrow.Author.Needs.{needs}
 use Rattle.record.specs.View.{view}
 use Rattle.rows.specs.Layout.{viewIn}
 use Rattle.answers.specs.Known.{Knows}
-use Rattle.listing_text.specs.Filling.{pieceOf}
-use Rattle.listing_text.proofs.Filling.{Going, going-start, going-done, going-full, going-on, going-out}
-use Rattle.listing_text.proofs.fill_opened.Statement.{statement}
-use Rattle.listing_text.proofs.fill_opened.Tie as tie
-use Rattle.listing_text.proofs.fill_opened.Reads as reads
-use Rattle.listing_text.proofs.fill_opened.Lts as lts
-use Rattle.listing_text.proofs.is_done.Reads as is-done-reads
-use Rattle.listing_text.proofs.next_line.Reads as next-line-reads
+use Rattle.listing_steps.specs.Filling.{pieceOf}
+use Rattle.listing_steps.proofs.Filling.{Going, going-start, going-done, going-full, going-on, going-out}
+use Rattle.listing_steps.proofs.fill_opened.Statement.{statement}
+use Rattle.listing_steps.proofs.fill_opened.Tie as tie
+use Rattle.listing_steps.proofs.fill_opened.Reads as reads
+use Rattle.listing_steps.proofs.fill_opened.Lts as lts
+use Rattle.listing_steps.proofs.is_done.Reads as is-done-reads
+use Rattle.listing_steps.proofs.next_line.Reads as next-line-reads
 
 abbrev Inv-loop : tie.InvT-loop
 Inv-loop tables strings blob options layout out₀ c₀ k₀ at₀ steps₀ out c k at steps =

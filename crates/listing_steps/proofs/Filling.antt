@@ -27,7 +27,7 @@ use Rattle.lines.specs.Cursors.{cursor, done, lineAt, nextAt, Went, Stepped}
 use Rattle.lines.specs.declared.Place.{Place}
 use Rattle.lines.specs.declared.Cursor.{Cursor}
 use Rattle.lines.specs.declared.Step.{Step}
-use Rattle.listing_text.specs.Filling.{isDone, Piece, pieceFrom, mostSteps, pieceOf, inputPiece, Pieced, Filled}
+use Rattle.listing_steps.specs.Filling.{isDone, Piece, pieceFrom, mostSteps, pieceOf, inputPiece, Pieced, Filled}
 
 -- A cursor's step is known by its place.
 pub at-place : (v : View) (c : Cursor) {p : Place} {o o′ : List ℕ} {at : ℕ} {s : Step}

@@ -1,18 +1,18 @@
 use Rattle.lines.proofs.Stepping.{classes-goes, class-goes, flags-goes, generic-goes, base-goes, method-goes, method-flags-goes, method-generic-goes, returns-goes, param-type-goes, param-name-goes}
-use Rattle.listing_text.proofs.Filling.{at-place, at-view}
+use Rattle.listing_steps.proofs.Filling.{at-place, at-view}
 use borrow.Author.Needs.{needs}
-use Rattle.listing_text.proofs.next_line.Statement.{statement}
-use Rattle.listing_text.proofs.next_line.Tie as tie
-use Rattle.listing_text.proofs.next_line.Reads as reads
-use Rattle.listing_text.proofs.next_line.Lts as lts
+use Rattle.listing_steps.proofs.next_line.Statement.{statement}
+use Rattle.listing_steps.proofs.next_line.Tie as tie
+use Rattle.listing_steps.proofs.next_line.Reads as reads
+use Rattle.listing_steps.proofs.next_line.Lts as lts
 use Rattle.answer_lines.proofs.name_line.Reads as name-line-reads
 use Rattle.answer_lines.proofs.number_line.Reads as number-line-reads
 use Rattle.lines.proofs.cursor_at.Reads as cursor-at-reads
 use Rattle.lines.proofs.done_cursor.Reads as done-cursor-reads
 use Rattle.lines.proofs.next_class.Reads as next-class-reads
 use Rattle.lines.proofs.next_number.Reads as next-number-reads
-use Rattle.listing_text.proofs.done_line.Reads as done-line-reads
-use Rattle.listing_text.proofs.stop_line.Reads as stop-line-reads
+use Rattle.listing_steps.proofs.done_line.Reads as done-line-reads
+use Rattle.listing_steps.proofs.stop_line.Reads as stop-line-reads
 
 -- src/lib.rt:113:66
 enum-told : tie.Need-enum-told

@@ -7,12 +7,12 @@ use types.Run.{OneOf, miss}
 use Rattle.lines.proofs.Place.{the-type}
 use Rattle.lines.specs.declared.Place.{Place}
 use Rattle.lines.specs.declared.Place.the-variants.{Stop, Classes, Class, Flags, Generic, Base, Method, MethodFlags, MethodGeneric, Returns, ParamType, ParamName, Done}
-use Rattle.listing_text.specs.Filling.{isDone}
+use Rattle.listing_steps.specs.Filling.{isDone}
 use borrow.Author.Needs.{needs}
-use Rattle.listing_text.proofs.is_done.Statement.{statement}
-use Rattle.listing_text.proofs.is_done.Tie as tie
-use Rattle.listing_text.proofs.is_done.Reads as reads
-use Rattle.listing_text.proofs.is_done.Lts as lts
+use Rattle.listing_steps.proofs.is_done.Statement.{statement}
+use Rattle.listing_steps.proofs.is_done.Tie as tie
+use Rattle.listing_steps.proofs.is_done.Reads as reads
+use Rattle.listing_steps.proofs.is_done.Lts as lts
 
 abbrev others : List ℕ
 others = 0 ∷ 1 ∷ 2 ∷ 3 ∷ 4 ∷ 5 ∷ 6 ∷ 7 ∷ 8 ∷ 9 ∷ 10 ∷ 11 ∷ []

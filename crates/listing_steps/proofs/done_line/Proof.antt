@@ -1,9 +1,9 @@
 use Rattle.lines.proofs.Stepping.{done-goes}
 use borrow.Author.Needs.{needs}
-use Rattle.listing_text.proofs.done_line.Statement.{statement}
-use Rattle.listing_text.proofs.done_line.Tie as tie
-use Rattle.listing_text.proofs.done_line.Reads as reads
-use Rattle.listing_text.proofs.done_line.Lts as lts
+use Rattle.listing_steps.proofs.done_line.Statement.{statement}
+use Rattle.listing_steps.proofs.done_line.Tie as tie
+use Rattle.listing_steps.proofs.done_line.Reads as reads
+use Rattle.listing_steps.proofs.done_line.Lts as lts
 use Rattle.lines.proofs.done_cursor.Reads as done-cursor-reads
 use Rattle.lines.proofs.push_nothing.Reads as push-nothing-reads
 
