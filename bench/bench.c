@@ -61,10 +61,11 @@ void measure_listing(struct listing *listing) { list(listing); }
 int measure_pieces(int input, int output) MEASURED;
 int measure_pieces(int input, int output) {
     static uint8_t data[MOST + 1], text[PIECE];
+    static uint32_t work[WORDS];
     struct input own;
     if (!open_file(input, data, &own)) return 0;
     for (dn_piece piece = { 0 }; !piece.done;) {
-        piece = list_piece(&own, piece.next, (struct buffer){ text, sizeof text });
+        piece = list_piece(&own, piece.next, (struct words){ work, WORDS }, (struct buffer){ text, sizeof text });
         if (!write_all(output, text, piece.used)) return 0;
     }
     return 1;

@@ -7,10 +7,10 @@
  * Of other code the archive needs memcpy and memset alone.
  *
  * Three streams are lent to a call: the tables stream (II.24.2.6), the strings heap (II.24.2.3) and the blob heap (II.24.2.4), each as a
- * pointer and a length. An absent heap is one of length 0. A pointer may be null where its length is 0, also that of the tables stream
- * or of a buffer. The streams may be any bytes and may overlap one another; a buffer overlaps nothing else. Nothing may write to a stream
- * while a call runs. A call keeps nothing: it writes to its buffer and to nothing else, allocates nothing, and may run in many threads at
- * once.
+ * pointer and a length. An absent heap is one of length 0. A pointer may be null where its length is 0, also that of the tables stream,
+ * of a buffer or of words. The streams may be any bytes and may overlap one another; a buffer overlaps nothing else, nor do words. Nothing
+ * may write to a stream while a call runs. A call keeps nothing: it writes to the buffer and the words that it is lent and to nothing else,
+ * allocates nothing, and may run in many threads at once.
  *
  * Then come the options, a set of bits that says how the streams are opened: 0 is the base. No other bit has a meaning yet, and bits
  * without one are ignored. A dn_streams holds all seven, and DN_STREAMS spreads it:
@@ -48,7 +48,7 @@ extern "C" {
 #endif
 
 /* The version of this interface, and that of the archive. What changes a signature, a struct or DN_LONGEST_LINE raises both. */
-#define DN_VERSION 1u
+#define DN_VERSION 2u
 uint32_t dn_version(void);
 
 /* What a refusal's number means. */
@@ -242,10 +242,15 @@ dn_reply dn_ask_name(const uint8_t *tables, size_t tables_len, const uint8_t *st
  * with the cursor of the piece before, until it is done. A buffer that does not hold the next line gets 0 bytes and the same cursor;
  * DN_LONGEST_LINE bytes always suffice. A piece takes at most 65,536 steps, some of which add no line: so it may leave room in a large
  * buffer, or have 0 bytes, and still get on. Any numbers are a cursor, and a place that there is not is the end. A stream that is refused
- * has one line, `refused=` and the number. A name in a line may have the byte 0x0A too. */
+ * has one line, `refused=` and the number. A name in a line may have the byte 0x0A too.
+ *
+ * The words are there for speed alone: the rows of a class are found by them without a search. Any number of words will do, 0 too, and
+ * whatever they hold; the piece is the same, and after the call every word is 0. 19,000 words serve every input of 65,536 bytes. In
+ * general these suffice: 4 for each row of TypeDef, 2 for each of MethodDef, 1 for each of GenericParam, InterfaceImpl and NestedClass,
+ * and 114 more. With fewer some rows are searched for. */
 dn_piece dn_listing(const uint8_t *tables, size_t tables_len, const uint8_t *strings, size_t strings_len,
                     const uint8_t *blob, size_t blob_len, uint32_t options,
-                    dn_cursor from, uint8_t *buf, size_t buf_len);
+                    dn_cursor from, uint32_t *work, size_t work_len, uint8_t *buf, size_t buf_len);
 
 #ifdef __cplusplus
 }

@@ -5,7 +5,8 @@
    CASES is crates/replay/data/cases: inputs, and for each the text that the listing program prints; that crate's src/main.rt says the form.
    WRONG is the file `wrong` beside it, with texts that are wrong on purpose: each must differ. Each question is asked by its number and by
    the call's own name, which replay.c holds against the record: for all numbers inside and some outside, in buffers of several lengths. The
-   options say nothing yet, so replies and buffers must be the same for all. Exit status: 0 all is as it should be, 1 something is not, 2 a
+   options say nothing yet, so replies and buffers must be the same for all. Each piece is asked for without lent words and with many, and
+   must be the same. Exit status: 0 all is as it should be, 1 something is not, 2 a
    file cannot be read. */
 #include <stdarg.h>
 #include "calls.h"
@@ -27,7 +28,7 @@ static const dn_cursor start;
 static size_t number; /* of the case, from 0 */
 static struct input in;
 static bytes text; /* its listing */
-static uint8_t buf[LARGEST + 1], other[LARGEST + 1];
+static uint8_t buf[LARGEST + 1], other[LARGEST + 1], twin[LARGEST + 1];
 
 /* Counts an answer, and prints what it was about where it is not as it should be. */
 static void check(int agrees, const char *format, ...) {
@@ -130,9 +131,26 @@ static int same_cursor(dn_cursor a, dn_cursor b) {
     return a.place == b.place && a.class_number == b.class_number && a.method == b.method && a.item == b.item;
 }
 
+static int same_piece(dn_piece a, dn_piece b) { return a.used == b.used && a.done == b.done && same_cursor(a.next, b.next); }
+
+static int alike; /* whether the last piece was the same without lent words and with many, and these were 0 afterwards */
+
+/* A piece, by words that are full of a byte, which also stands behind them. */
+static dn_piece list(dn_cursor from, uint8_t *at, size_t room, int byte) {
+    static uint32_t work[WORDS + 1];
+    uint8_t *first = (uint8_t *)work;
+    memset(work, byte, sizeof work);
+    dn_piece a = list_piece(&in, from, (struct words){work, WORDS}, full(at, room, byte));
+    dn_piece b = list_piece(&in, from, (struct words){NULL, 0}, full(twin, room, byte));
+    alike = same_piece(a, b) && !memcmp(at, twin, room + 1);
+    alike &= zero_from(first, 0, WORDS * sizeof *work) && first[WORDS * sizeof *work] == byte;
+    return a;
+}
+
 /* Whether a piece in `buf`, which was full of 0xAA, can be one. */
 static int is_piece(dn_piece p, size_t room) {
-    return p.used <= room && p.done <= 1 && (!p.used || buf[p.used - 1] == '\n') && zero_from(buf, p.used, room) && buf[room] == 0xAA;
+    if (!alike || p.used > room || p.done > 1) return 0;
+    return (!p.used || buf[p.used - 1] == '\n') && zero_from(buf, p.used, room) && buf[room] == 0xAA;
 }
 
 static int is_nothing(dn_piece p, size_t room, dn_cursor from) {
@@ -158,7 +176,7 @@ static size_t line_at(size_t at) {
 static int lists(size_t room) {
     dn_cursor from = start;
     for (size_t at = 0;;) {
-        dn_piece p = list_piece(&in, from, full(buf, room, 0xAA));
+        dn_piece p = list(from, buf, room, 0xAA);
         if (!is_piece(p, room) || p.used > text.len - at || memcmp(buf, text.at + at, p.used)) return 0;
         at += p.used, from = p.next;
         if (p.done || at == text.len) return p.done && at == text.len;
@@ -172,8 +190,8 @@ static size_t check_lines(void) {
     dn_cursor from = start;
     for (size_t at = 0; at < text.len; at += n) {
         n = line_at(at);
-        check(is_nothing(list_piece(&in, from, full(buf, n - 1, 0xAA)), n - 1, from), "dn_listing at byte %zu, %zu bytes", at, n - 1);
-        dn_piece p = list_piece(&in, from, full(buf, n, 0xAA));
+        check(is_nothing(list(from, buf, n - 1, 0xAA), n - 1, from), "dn_listing at byte %zu, %zu bytes", at, n - 1);
+        dn_piece p = list(from, buf, n, 0xAA);
         check(is_piece(p, n) && p.used == n && !memcmp(buf, text.at + at, n) && p.done == (at + n == text.len),
               "dn_listing at byte %zu, %zu bytes", at, n);
         from = p.next;
@@ -184,14 +202,14 @@ static size_t check_lines(void) {
 
 static void check_listing(void) {
     const size_t sizes[] = {check_lines(), DN_LONGEST_LINE, LARGEST};
-    check(is_nothing(list_piece(&in, start, full(buf, 0, 0xAA)), 0, start), "dn_listing, 0 bytes");
+    check(is_nothing(list(start, buf, 0, 0xAA), 0, start), "dn_listing, 0 bytes");
     for (size_t i = 0; i < COUNT(words); i++)
         for (size_t k = 0; k < COUNT(sizes); k++) {
             in.options = words[i];
             check(lists(sizes[k]), "dn_listing, %zu bytes", sizes[k]);
         }
     for (size_t i = 0; i < COUNT(no_places); i++) {
-        dn_piece p = list_piece(&in, (dn_cursor){no_places[i], 0, 0, 0}, full(buf, DN_LONGEST_LINE, 0xAA));
+        dn_piece p = list((dn_cursor){no_places[i], 0, 0, 0}, buf, DN_LONGEST_LINE, 0xAA);
         check(is_piece(p, DN_LONGEST_LINE) && !p.used && p.done, "dn_listing from place %u", no_places[i]);
     }
 }
@@ -215,11 +233,11 @@ static void check_nulls(void) {
     struct input whole = in;
     for (unsigned empty = 1; empty < 8; empty++) {
         in = with_empty(whole, empty, &spot);
-        dn_piece a = list_piece(&in, start, full(other, LARGEST, 0x55));
+        dn_piece a = list(start, other, LARGEST, 0x55);
+        int first_alike = alike;
         in = with_empty(whole, empty, NULL);
-        dn_piece b = list_piece(&in, start, full(buf, LARGEST, 0xAA));
-        check(a.used == b.used && a.done == b.done && same_cursor(a.next, b.next) && !memcmp(other, buf, LARGEST),
-              "dn_listing, null pointers %u", empty);
+        dn_piece b = list(start, buf, LARGEST, 0xAA);
+        check(first_alike && alike && same_piece(a, b) && !memcmp(other, buf, LARGEST), "dn_listing, null pointers %u", empty);
         for (const struct call *call = calls; call < calls + CALLS; call++) check_call(call, rows);
     }
 }

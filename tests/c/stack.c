@@ -6,7 +6,8 @@
    output gets for each a text after its length in the same form: for every call a line with its name and the bytes of stack that it took.
    It is asked for the first class, method, parameter and so on, on a thread with a stack of ROOM bytes, all 0 before: what it took reaches
    down to the lowest byte that is not 0 afterwards. Calls by their questions have two lines, ask_number and ask_name, with what the worst
-   question took, and the first piece of the listing has one. tests/stack reads the lines. */
+   question took, and the first piece of the listing has one, with what it took at worst, without lent words or with many. tests/stack reads
+   the lines. */
 #define _GNU_SOURCE
 #include <pthread.h>
 #include <stdio.h>
@@ -25,6 +26,7 @@ static struct input input;
 static const struct call *call;
 static const uint32_t first[3];
 static uint8_t lent[PIECE];
+static uint32_t work[WORDS];
 static char *stack, *top;
 static size_t room;
 
@@ -53,7 +55,8 @@ static void *ask_names(void *none) {
 
 static void *list(void *none) {
     top = __builtin_frame_address(0);
-    list_piece(&input, (dn_cursor){ 0, 0, 0, 0 }, (struct buffer){ lent, PIECE });
+    for (size_t n = 0; n <= WORDS; n += WORDS)
+        list_piece(&input, (dn_cursor){ 0, 0, 0, 0 }, (struct words){ work, n }, (struct buffer){ lent, PIECE });
     return none;
 }
 

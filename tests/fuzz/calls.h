@@ -8,8 +8,11 @@
 enum { WALK_STOP, CLASS_COUNT, GENERIC_COUNT, BASE_COUNT, METHOD_COUNT, METHOD_GENERIC_COUNT, PARAM_COUNT, CLASS_FLAGS, METHOD_FLAGS,
        CLASS_NAME, GENERIC_NAME, BASE_NAME, METHOD_NAME, METHOD_GENERIC_NAME, RETURN_TYPE, PARAM_TYPE, PARAM_NAME, CALLS };
 
+enum { WORDS = 19000 }; /* lent to a listing, as many as serve every input of 65,536 bytes */
+
 struct bytes { const uint8_t *at; size_t length; };
 struct buffer { uint8_t *at; size_t length; };
+struct words { uint32_t *at; size_t length; };
 struct input { struct bytes tables, strings, blob; uint32_t options; };
 
 struct call {
@@ -56,8 +59,8 @@ static inline dn_reply ask_question(const struct input *in, uint32_t question, i
     return is_name ? dn_ask_name(STREAMS, question, r[0], r[1], r[2], BUFFER) : dn_ask_number(STREAMS, question, r[0], r[1], r[2]);
 }
 
-static inline dn_piece list_piece(const struct input *in, dn_cursor from, struct buffer buffer) {
-    return dn_listing(STREAMS, from, BUFFER);
+static inline dn_piece list_piece(const struct input *in, dn_cursor from, struct words work, struct buffer buffer) {
+    return dn_listing(STREAMS, from, work.at, work.length, BUFFER);
 }
 
 #define CALL(NAME, name, rows, is_name, ...) [NAME] = { #name, DN_ASK_##NAME, rows, { __VA_ARGS__ }, is_name, ask_##name }

@@ -4,10 +4,11 @@
                                    and 0xFF: one reply, and the same bytes afterwards, also by its question
      harness inputs SEEDS N SEED   N inputs, made from the seeds by mutation or from nothing: every call, with numbers inside and outside,
                                    by its name and by its question and with any options; questions that there are not; and pieces of the
-                                   listing from anywhere
+                                   listing from anywhere, by lent words of any number and content
 
    SEEDS is a file of inputs of the listing program, each after a 4-byte little-endian length. Every stream ends where memory ends, the
-   buffer too, and before the buffer stand bytes that must stay. Exit status: 0 all well, 1 something is wrong, 2 no seeds or no memory. */
+   buffer and the lent words too, and before these two stand bytes that must stay. Exit status: 0 all well, 1 something is wrong, 2 no seeds
+   or no memory. */
 #define _GNU_SOURCE
 #include <setjmp.h>
 #include <signal.h>
@@ -22,7 +23,7 @@
 
 #define MOST 65536           /* bytes of an input */
 #define ROOM (1 << 20)       /* bytes of the largest buffer */
-#define CANARY 64            /* bytes before the buffer */
+#define CANARY 64            /* bytes before the buffer, and before lent words */
 #define PLACES 13            /* of a listing */
 #define TICK 50000           /* microseconds */
 #define TICKS_A_CALL 6
@@ -41,7 +42,7 @@ static struct region region_of(size_t size) {
     return (struct region){ at, at + whole };
 }
 
-static struct region streams[3], lent;
+static struct region streams[3], lent, lent_words;
 static uint8_t copy[3][MOST];   /* of the streams, to see that they are only read */
 static size_t lengths[3];
 static struct input input;
@@ -65,7 +66,7 @@ static int are_unchanged(void) {
 /* ---- what is wrong, and what takes too long */
 
 static unsigned long asked, wrong, slow;
-static struct current { const char *name; uint32_t numbers[4]; size_t room; } current;
+static struct current { const char *name; uint32_t numbers[4]; size_t room, words; } current;
 static volatile sig_atomic_t ticks, armed;
 static sigjmp_buf too_long;
 
@@ -85,8 +86,8 @@ static void save_input(const char *why) {
 static void report(const char *what) {
     if (wrong++ < 20) {
         const uint32_t *n = current.numbers;
-        fprintf(stderr, "wrong: %s %u %u %u %u, options %#x, %zu bytes: %s\n", current.name, n[0], n[1], n[2], n[3], input.options,
-                current.room, what);
+        fprintf(stderr, "wrong: %s %u %u %u %u, options %#x, %zu bytes, %zu words: %s\n", current.name, n[0], n[1], n[2], n[3],
+                input.options, current.room, current.words, what);
         save_input("wrong");
     }
 }
@@ -119,7 +120,7 @@ static void catch_signals(void) {
 static void begin(struct current next) { current = next, asked++, ticks = 0, armed = 1; }
 
 static dn_reply ask(int call, const uint32_t *r, struct buffer buffer) {
-    begin((struct current){ calls[call].name, { r[0], r[1], r[2], 0 }, buffer.length });
+    begin((struct current){ calls[call].name, { r[0], r[1], r[2], 0 }, buffer.length, 0 });
     dn_reply reply = calls[call].ask(&input, r, buffer);
     armed = 0;
     return reply;
@@ -143,10 +144,14 @@ static int is_zero(const uint8_t *at, size_t length) {
     return length == 0 || (at[0] == 0 && !memcmp(at, at + 1, length - 1));
 }
 
+static void look_before(const uint8_t *at) {
+    for (int i = 1; i <= CANARY; i++)
+        if (at[-i] != 0x5C) { report("bytes before the buffer or the words are written"); break; }
+}
+
 /* Looks at what a call wrote: nothing before the buffer, and zeros behind what it used. */
 static void look_at(struct buffer buffer, size_t used) {
-    for (int i = 1; i <= CANARY; i++)
-        if (buffer.at[-i] != 0x5C) { report("bytes before the buffer are written"); break; }
+    look_before(buffer.at);
     if (used > buffer.length) report("a length that cannot be");
     else if (!is_zero(buffer.at + used, buffer.length - used)) report("bytes that are not zero behind what is written");
 }
@@ -166,7 +171,7 @@ static uint8_t seen[ROOM]; /* what a buffer had after a call */
 /* A question must have that reply, and leave the bytes that were seen. */
 static void check_question(uint32_t question, int is_name, const uint32_t *r, size_t length, dn_reply expected) {
     struct buffer buffer = buffer_of(length, 0x55);
-    begin((struct current){ is_name ? "ask_name" : "ask_number", { question, r[0], r[1], r[2] }, length });
+    begin((struct current){ is_name ? "ask_name" : "ask_number", { question, r[0], r[1], r[2] }, length, 0 });
     dn_reply reply = ask_question(&input, question, is_name, r, buffer);
     armed = 0;
     look_at(buffer, is_name ? reply.value : 0);
@@ -431,12 +436,30 @@ static int same_cursor(dn_cursor a, dn_cursor b) {
 
 static int same_piece(dn_piece a, dn_piece b) { return a.used == b.used && a.done == b.done && same_cursor(a.next, b.next); }
 
+static uint32_t anything[2 * WORDS]; /* of which lent words hold a part */
+
+static void make_anything(void) {
+    for (size_t i = 0; i < 2 * WORDS; i++) anything[i] = below(2) ? (uint32_t)chance() : (uint32_t)below(200);
+}
+
+/* Words of some number, none, a few or as many as serve. */
+static struct words some_words(void) {
+    size_t n = (const size_t[]){ 0, below(400), WORDS }[below(3)];
+    uint8_t *at = lent_words.end - n * sizeof *anything;
+    memset(at - CANARY, 0x5C, CANARY);
+    memcpy(at, anything + below(WORDS), n * sizeof *anything);
+    return (struct words){ (uint32_t *)at, n };
+}
+
 static dn_piece list(dn_cursor from, size_t length, int fill) {
     struct buffer buffer = buffer_of(length, fill);
-    begin((struct current){ "listing", { from.place, from.class_number, from.method, from.item }, length });
-    dn_piece piece = list_piece(&input, from, buffer);
+    struct words work = some_words();
+    begin((struct current){ "listing", { from.place, from.class_number, from.method, from.item }, length, work.length });
+    dn_piece piece = list_piece(&input, from, work, buffer);
     armed = 0;
     look_at(buffer, piece.used);
+    look_before((const uint8_t *)work.at);
+    if (!is_zero((const uint8_t *)work.at, work.length * sizeof *work.at)) report("lent words that are not zero");
     if (piece.used && piece.used <= length && buffer.at[piece.used - 1] != '\n') report("a piece that no line ends");
     if (piece.done > 1) report("neither done nor not done");
     return piece;
@@ -505,6 +528,7 @@ static void check_walk(size_t refusal) {
 
 static void run_inputs(unsigned long times) {
     static unsigned long left;
+    make_anything();
     for (left = times; left; left--) {
         if (sigsetjmp(too_long, 1)) { slow++, save_input("slow"); continue; }
         make_input(), place();
@@ -528,6 +552,7 @@ int main(int argc, char **argv) {
     }
     for (int i = 0; i < 3; i++) streams[i] = region_of(MOST);
     lent = region_of(ROOM + CANARY);
+    lent_words = region_of(WORDS * sizeof *anything + CANARY);
     read_seeds(argv[2]);
     catch_signals();
     time_t begun = time(0);

@@ -4,7 +4,7 @@ use lines::Cursor;
 use lines::Place;
 use lines::Step;
 ghost use mathlib.Core.Path.{_≡_};
-ghost use lib.ListN.{length};
+ghost use lib.ListN.{length, replicate};
 ghost use Rattle.record.specs.View.{view};
 ghost use Rattle.listing_steps.specs.Filling.{pieceOf};
 ghost use Rattle.c_questions.specs.Asked.{optionsOf};
@@ -111,19 +111,22 @@ fn told_step(step: Step) -> DnPiece
     }
 }
 
-// As many whole lines from a cursor on as the buffer holds, and then zeros.
+// As many whole lines from a cursor on as the buffer holds, and then zeros. The lent words are there for speed alone: any number of them
+// will do, whatever they hold, and after the call they are zero.
 pub fn listing(
     tables: &[u8],
     strings: &[u8],
     blob: &[u8],
     options: u32,
     from: DnCursor,
+    work: &mut [u32],
     buf: &mut [u8],
 ) -> DnPiece
     ensures { λ r. let v = view (optionsOf options) (now (tables .entry)) (now (strings .entry)) (now (blob .entry)) in
-        ⌜ ToldPiece (pieceOf v (length (now (buf .entry))) (cursorOf from)) (now (buf .entry)) r (now (buf .exit)) ⌝ }
+        ⌜ ToldPiece (pieceOf v (length (now (buf .entry))) (cursorOf from)) (now (buf .entry)) r (now (buf .exit)) ×
+        (now (work .exit) ≡ replicate (length (now (work .entry))) 0) ⌝ }
 {
     let opened = c_questions::options_of(options);
     let start = cursor_of(from);
-    told_step(listing_text::fill(tables, strings, blob, opened, start, buf))
+    told_step(listing_text::fill(tables, strings, blob, opened, start, work, buf))
 }

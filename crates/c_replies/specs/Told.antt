@@ -17,7 +17,7 @@ use Rattle.c_replies.specs.declared.DnExtent.{DnExtent}
 
 -- The version of the interface, DN_VERSION in the header: whatever changes a signature, a struct or the longest line raises both.
 abbrev pub theVersion : ℕ
-theVersion = 1
+theVersion = 2
 
 -- An answer: its value and 0, or 0 and the number that says no.
 abbrev pub told : Answer ℕ → DnReply

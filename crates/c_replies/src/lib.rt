@@ -33,7 +33,7 @@ pub struct DnExtent {
 }
 
 // The version of the interface, DN_VERSION in the header.
-const VERSION: u32 = 1;
+const VERSION: u32 = 2;
 
 pub fn version() -> u32
     ensures { λ r. ⌜ r ≡ theVersion ⌝ }

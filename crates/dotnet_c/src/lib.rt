@@ -12,7 +12,7 @@ ghost use mathlib.Core.Path.{_≡_};
 ghost use Rattle.tables.specs.Extents.{walkOf};
 ghost use Rattle.record.specs.View.{view};
 ghost use Rattle.record.specs.Answers.{classCount, classFlags, className, genericCount, genericName, baseCount, baseName, methodCount, methodFlags, methodName, methodGenericCount, methodGenericName, returnType, parameterCount, parameterType, parameterName};
-ghost use lib.ListN.{length};
+ghost use lib.ListN.{length, replicate};
 ghost use Rattle.listing_steps.specs.Filling.{pieceOf};
 ghost use Rattle.c_replies.specs.Told.{theVersion, told, ToldName, toldLookup, toldExtent};
 ghost use Rattle.c_questions.specs.Asked.{optionsOf, numberAsked, nameAsked, askedNumber, askedName};
@@ -464,7 +464,8 @@ pub extern "C" fn dn_ask_name(
     c_asks::ask_name(tables, strings, blob, options, question, a, b, c, buf)
 }
 
-// A piece of the listing: as many whole lines from a cursor on as the buffer holds.
+// A piece of the listing: as many whole lines from a cursor on as the buffer holds. The lent words are there for speed alone, and zero
+// after the call.
 #[no_mangle]
 pub extern "C" fn dn_listing(
     tables: &[u8],
@@ -472,10 +473,12 @@ pub extern "C" fn dn_listing(
     blob: &[u8],
     options: u32,
     from: DnCursor,
+    work: &mut [u32],
     buf: &mut [u8],
 ) -> DnPiece
     ensures { λ r. let v = view (optionsOf options) (now (tables .entry)) (now (strings .entry)) (now (blob .entry)) in
-        ⌜ ToldPiece (pieceOf v (length (now (buf .entry))) (cursorOf from)) (now (buf .entry)) r (now (buf .exit)) ⌝ }
+        ⌜ ToldPiece (pieceOf v (length (now (buf .entry))) (cursorOf from)) (now (buf .entry)) r (now (buf .exit)) ×
+        (now (work .exit) ≡ replicate (length (now (work .entry))) 0) ⌝ }
 {
-    c_listing::listing(tables, strings, blob, options, from, buf)
+    c_listing::listing(tables, strings, blob, options, from, work, buf)
 }
