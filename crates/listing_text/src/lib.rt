@@ -70,7 +70,16 @@ fn fill_held(
 {
     let known = answers::nothing_known();
     if work.len() < columns::SIZE {
-        let on = listing_steps::fill_opened(tables, strings, blob, options, layout, from, known, out);
+        let on = listing_steps::fill_opened(
+            tables,
+            strings,
+            blob,
+            options,
+            layout,
+            from,
+            known,
+            out,
+        );
         return on.step;
     }
     holding::hold(work, tables, layout);

@@ -65,7 +65,7 @@ slice-aggregate-write-pieces c = search needs
 
 -- src/main.rt:122:13
 write-pieces-requires : tie.Need-write-pieces-requires
-write-pieces-requires c κs = 
+write-pieces-requires c κs =
     let held = c .before .before .hold .ensures in
     let m = c .before .before .before .before .before .before .mark-methods .ensures in
     let opened = c .before .before .before .before .before .before .before .before .before .before .before .«open» .ensures in
