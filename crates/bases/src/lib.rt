@@ -82,7 +82,8 @@ fn candidate_at(
 ) -> Candidate
     requires { ⌜ Laid (now tables) (now layout) ⌝ }
     requires { ⌜ (1 < row .0) × (row .0 ≤ rowsAt (now layout) columns.typeName) ⌝ }
-    requires { ⌜ (from ≤ rowsAt (now layout) columns.implClass) × (passed ≡ keyed (cell (now tables) (now layout) columns.implClass) (row .0) from) × (passed ≤ i - 1) ⌝ }
+    requires { ⌜ (from ≤ rowsAt (now layout) columns.implClass) × (passed ≤ i - 1)
+        × (passed ≡ keyed (cell (now tables) (now layout) columns.implClass) (row .0) from) ⌝ }
     ensures { λ r.
         ⌜ ((strings blob : List ℕ) → CandidateIs (now (tables .entry)) (now (layout .entry)) strings blob (row .0) i r) ⌝ }
 {

@@ -8,14 +8,13 @@ use buffers::put;
 use buffers::refusal_number;
 use classes::ClassNumber;
 ghost use mathlib.Core.Path.{_≡_};
-ghost use mathlib.Core.Bool.{cond};
 ghost use mathlib.Core.List.{List, []};
 ghost use Prim.Native.Nat.{ℕ};
 ghost use lib.ListN.{length};
 ghost use Rattle.buffers.specs.Texts.{Text};
 ghost use Rattle.buffers.specs.Writes.{Wrote, Kept};
-ghost use Rattle.buffers.specs.Replies.{number, Answer, Named, replySays};
-ghost use Rattle.lines.specs.Lines.{line, longest, shown, numberLine, refusedLine, answerLine, missingLine, nameLine, hasLine};
+ghost use Rattle.buffers.specs.Replies.{number, replySays};
+ghost use Rattle.lines.specs.Lines.{line, longest, shown, numberLine, refusedLine, answerLine};
 ghost use Rattle.lines.specs.Ending.{Ending};
 ghost use Rattle.lines.specs.Cursors.{cursor, first, done, nextNumber, Went};
 ghost use Rattle.lines.specs.declared.Ended.the-variants.{Unsure};
@@ -113,23 +112,6 @@ pub fn push_nothing(out: &mut [u8], at: usize) -> usize
     at
 }
 
-// A key and a value.
-fn push_line(out: &mut [u8], at: usize, key: &[u8], value: &[u8]) -> usize
-    ensures { λ r. ⌜ Wrote (now (out .entry)) at (line (now (key .entry)) (now (value .entry))) (now (out .exit)) r ⌝ }
-{
-    let start = push(out, at, key);
-    let end = push(out, start, value);
-    put(out, end, LINE_END)
-}
-
-// A key alone.
-fn push_key(out: &mut [u8], at: usize, key: &[u8]) -> usize
-    ensures { λ r. ⌜ Wrote (now (out .entry)) at (line (now (key .entry)) []) (now (out .exit)) r ⌝ }
-{
-    let end = push(out, at, key);
-    put(out, end, LINE_END)
-}
-
 // A key and a number.
 pub fn push_number(out: &mut [u8], at: usize, key: &[u8], n: usize) -> usize
     ensures { λ r. ⌜ Wrote (now (out .entry)) at (numberLine (now (key .entry)) n) (now (out .exit)) r ⌝ }
@@ -182,71 +164,6 @@ pub fn end_missing(out: &mut [u8], start: usize) -> usize
         (now (out .exit)) r) ⌝ }
 {
     put(out, start, LINE_END)
-}
-
-// The line of a name that was refused, by the refusal's number.
-fn push_missing(out: &mut [u8], at: usize, key: &[u8], n: u8) -> usize
-    ensures { λ r. ⌜ Wrote (now (out .entry)) at (missingLine (now (key .entry)) n) (now (out .exit)) r ⌝ }
-{
-    if n == 5 {
-        return push_key(out, at, key);
-    }
-    if n == 6 {
-        return push_line(out, at, key, b"!");
-    }
-    push_nothing(out, at)
-}
-
-// The line of a name that a call with a buffer of 4,096 bytes was asked for, by the call's reply and the buffer after it.
-pub fn push_name(out: &mut [u8], at: usize, key: &[u8], reply: Reply, name: &[u8]) -> usize
-    ensures { λ r.
-        ⌜ ((a : Answer Text) (b : List ℕ) → length b ≡ longest → Named a b reply (now (name .entry)) → Wrote (now (out .entry)) at
-        (nameLine (now (key .entry)) a) (now (out .exit)) r) ⌝ }
-{
-    match reply {
-        Reply::Is(n) => push_line(out, at, key, numbers::cut(name, 0, n)),
-        Reply::No(why) => push_missing(out, at, key, refusal_number(why)),
-    }
-}
-
-// Whether a reply for a name has a line.
-fn has_line(reply: Reply) -> bool
-    ensures { λ r. ⌜ r ≡ hasLine (replySays reply) ⌝ }
-{
-    match reply {
-        Reply::Is(_) => true,
-        Reply::No(why) => {
-            let n = refusal_number(why);
-            n == 5 || n == 6
-        }
-    }
-}
-
-// The same, and where it goes on: to one cursor if there is a line, else to the other.
-pub fn name_step(
-    out: &mut [u8],
-    at: usize,
-    key: &[u8],
-    reply: Reply,
-    name: &[u8],
-    more: Cursor,
-    past: Cursor,
-) -> Step
-    ensures { λ r.
-        ⌜ ((a : Answer Text) (b : List ℕ) → length b ≡ longest → Named a b reply (now (name .entry)) → Went (nameLine (now (key .entry)) a)
-        (cond (hasLine a) more past) (now (out .entry)) at (now (out .exit)) r) ⌝ }
-{
-    let end = push_name(out, at, key, reply, name);
-    if has_line(reply) {
-        return Step {
-            next: more,
-            at: end,
-        };
-    }
-    Step {
-        next: past,
-        at: end,
-    }
 }
 
 // The line of a number by a call's reply, and where it goes on.

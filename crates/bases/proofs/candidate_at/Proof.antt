@@ -47,7 +47,7 @@ sub-find-key-from c = search needs
 find-key-from-requires : tie.Need-find-key-from-requires
 find-key-from-requires c κs =
     let start = c .before .before .before .before in
-    (start .pre .0, (omega arith, start .pre .1 .1 .0, rw (c .wide2 .ensures .0) (start .pre .1 .1 .1), start .pre .1 .1 .2))
+    (start .pre .0, (omega arith, start .pre .1 .1 .0, rw (c .wide2 .ensures .0) (start .pre .1 .1 .2), start .pre .1 .1 .1))
 
 -- src/lib.rt:96:17
 enum-known-own : tie.Need-enum-known-own
