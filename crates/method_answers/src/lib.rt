@@ -1,5 +1,5 @@
 // The answers of the calls for a method, of a stream that is opened: by its layout. The public calls open it, and so does a listing, once.
-// Which row a method of a class has is found before (`places::method_row`), once for all questions about it. A name is told at a place.
+// Which row a method of a class has is found before (`places::place_method`), once for all questions about it. A name is told at a place.
 use buffers::Refusal;
 use buffers::Reply;
 use buffers::Told;
