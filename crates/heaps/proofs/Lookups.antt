@@ -30,10 +30,10 @@ module _ (x : ℕ) (s : List ℕ) (i : ℕ) {e : ℕ} (inv : i + before x (drop 
     unfolding before
     find-hit k = let here : before x (drop i s) ≡ 0 = rw (drop-cons s i 0 h, eq-eqb _ _ k) in omega arith
 
-    pub find-step : (getD s i 0 ≡ x → ⊥) → i + 1 + before x (drop (i + 1) s) ≡ e
+    pub find-step : (getD s i 0 ≡ x → ⊥) → (j : ℕ) → j ≡ i + 1 → j + before x (drop j s) ≡ e
     unfolding before
-    find-step n =
-        let further : before x (drop i s) ≡ 1 + before x (drop (i + 1) s) = rw (drop-cons s i 0 h, ne-eqb _ _ n, add-one i) (omega arith) in
+    find-step n j next =
+        let further : before x (drop i s) ≡ 1 + before x (drop j s) = rw (drop-cons s i 0 h, ne-eqb _ _ n, next, add-one i) (omega arith) in
         omega arith
 
 pub before-most : (x : ℕ) (s : List ℕ) → before x s ≤ length s

@@ -27,8 +27,34 @@ pub enum Part {
     Absent(Absence),
 }
 
-// The position of the first x at or after another, or the end.
+// The position of the first x at or after another, or the end. It looks at four bytes a turn, while there are four.
 pub fn find_byte(s: &[u8], from: usize, x: u8) -> usize
+    ensures { λ r. ⌜ r ≡ from + before x (drop from (now (s .entry))) ⌝ }
+{
+    let mut i = from;
+    while i < s.len() {
+        if s.len() - i < 4 {
+            return find_next(s, i, x);
+        }
+        if s[i] == x {
+            return i;
+        }
+        if s[i + 1] == x {
+            return i + 1;
+        }
+        if s[i + 2] == x {
+            return i + 2;
+        }
+        if s[i + 3] == x {
+            return i + 3;
+        }
+        i += 4;
+    }
+    i
+}
+
+// The same, byte by byte.
+fn find_next(s: &[u8], from: usize, x: u8) -> usize
     ensures { λ r. ⌜ r ≡ from + before x (drop from (now (s .entry))) ⌝ }
 {
     let mut i = from;
