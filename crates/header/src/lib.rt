@@ -71,7 +71,7 @@ fn read_counts(s: &[u8], mask: u64, limit: u32) -> Counts
     let mut kind = 0;
     while 0 < m {
         if m % 2 == 1 {
-            let n = numbers::read_word(s, at, 4);
+            let n = numbers::read_four(s, at);
             if limit < n {
                 return Counts { over: true, counts };
             }

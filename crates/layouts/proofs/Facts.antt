@@ -10,6 +10,7 @@ use borrow.Author.Tests.{lt-leb}
 use lib.Dec.{T, eqb}
 use lib.ListN.{length, getD}
 use Rattle.numbers.specs.Bits.{bitAt}
+use Rattle.numbers.specs.Fixed.{TwoOrFour}
 use Rattle.layouts.specs.Kinds.{declSecurity}
 use Rattle.layouts.specs.Columns.{Column, Two, Four, String, Guid, Blob, TypeDef, Field, MethodDef, Param, Event, Property}
 use Rattle.layouts.specs.Columns.{ModuleRef, AssemblyRef, GenericParam, TypeDefOrRef, HasConstant, HasCustomAttribute}
@@ -17,7 +18,7 @@ use Rattle.layouts.specs.Columns.{HasFieldMarshall, HasDeclSecurity, Mem
 use Rattle.layouts.specs.Columns.{MemberForwarded, Implementation, CustomAttributeType, ResolutionScope, TypeOrMethodDef}
 use Rattle.layouts.specs.Columns.{tables, reaches, indexSize, heapSize, hasCustomAttribute, indexSizes, widthIn, sumOf}
 use Rattle.layouts.specs.Columns.{rowSize}
-use Rattle.layouts.specs.Facts.{TwoOrFour, ColumnsTwoOrFour, RowsHaveBytes, FewRows, FewDeclSecurity, FieldRows}
+use Rattle.layouts.specs.Facts.{ColumnsTwoOrFour, RowsHaveBytes, FewRows, FewDeclSecurity, FieldRows}
 use Rattle.layouts.proofs.Reaches.{small}
 use Rattle.layouts.proofs.Sizes.{few}
 

@@ -2,16 +2,13 @@
 use mathlib.Core.Path.{_≡_}
 use mathlib.Core.Bool.{Bool, true, false}
 use mathlib.Core.List.{List, [], _∷_}
-use mathlib.Core.Logic.{_⊎_}
 use Prim.Native.Nat.{ℕ, _-_, _^_, _<_}
 use lib.ListN.{getD}
+use Rattle.numbers.specs.Fixed.{TwoOrFour}
 use Rattle.layouts.specs.Kinds.{declSecurity}
 use Rattle.layouts.specs.Columns.{Column, indexSize, indexSizes, widthIn, rowSize}
 
 -- Every column takes 2 or 4 bytes, and so does every index.
-abbrev pub TwoOrFour : ℕ → Type 0
-TwoOrFour n = (n ≡ 2) ⊎ (n ≡ 4)
-
 abbrev pub ColumnsTwoOrFour : Type 0
 ColumnsTwoOrFour = (decl : Bool) (heap : ℕ) (cs : List ℕ) (c : Column) → TwoOrFour (widthIn (indexSizes decl heap cs) c)
 

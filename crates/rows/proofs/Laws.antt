@@ -9,7 +9,7 @@ use mathlib.Core.Logic.{_≢_, _⊎_, inl, inr, ⊎-elim}
 use denote.Ref.{RefT, now}
 use lib.Dec.{T, ltb, ltb→lt, eqb, eqb→eq}
 use lib.ListN.{length, getD}
-use Rattle.numbers.specs.Fixed.{leAt}
+use Rattle.numbers.specs.Fixed.{leAt, TwoOrFour}
 use Rattle.numbers.specs.Parts.{CutOf}
 use Rattle.numbers.proofs.Parts.{cut-is}
 use Rattle.buffers.specs.Writes.{Wrote}
@@ -75,7 +75,7 @@ firstAt l c = getD l (columns.numbers * c) 0 + getD l (columns.numbers * c + col
 
 -- What reading row i of a column relies on, by the column's numbers: the number lies within the stream, and is v.
 pub record Reads (t : List ℕ) (v i first step width : ℕ) : Type 0 where
-  pub narrow : width ≤ 4
+  pub sized : TwoOrFour width
   pub small : i * step ≤ length t
   pub within : first + i * step + width ≤ length t
   pub is : leAt width t (first + i * step) ≡ v
@@ -120,8 +120,7 @@ module _ {t l : List ℕ} (laid : Laid t l) where
       let step : i * getD l (columns.numbers * c + columns.step) 0 ≡ i * e .size = ap (λ (x : ℕ). i * x) b in
       let at : e .start + i * e .size + offsetIn (sizesIn o h) (readColumn c) ≡ firstAt l c + i * getD l (columns.numbers * c + columns.step) 0 = omega arith in
       record {
-        narrow = ⊎-elim (λ w. omega arith) (λ w. omega arith)
-            (two-or-four (counted o h) (h .heap) (h .counts) (getD (columnsOf (readColumn c .kind)) (readColumn c .place) Two));
+        sized = rw d (two-or-four (counted o h) (h .heap) (h .counts) (getD (columnsOf (readColumn c .kind)) (readColumn c .place) Two));
         small = omega (arith, s .within);
         within = omega (arith, s .within, s .sized);
         is =

@@ -8,7 +8,7 @@ use Rattle.header.proofs.read_counts.Statement.{statement}
 use Rattle.header.proofs.read_counts.Tie as tie
 use Rattle.header.proofs.read_counts.Reads as reads
 use Rattle.header.proofs.read_counts.Lts as lts
-use Rattle.numbers.proofs.read_word.Reads as read-word-reads
+use Rattle.numbers.proofs.read_four.Reads as read-four-reads
 
 abbrev Inv-loop : tie.InvT-loop
 Inv-loop s mask limit counts₀ m₀ at₀ kind₀ counts m at kind = Counting limit s counts m at kind
@@ -21,10 +21,10 @@ loop-holds : tie.Need-loop-holds Inv-loop μ-loop
 loop-holds c = begin _ _ _ (c .before .pre .0)
 
 -- src/lib.rt:74:17
-read-word-requires : tie.Need-read-word-requires Inv-loop μ-loop
-read-word-requires c κs =
+read-four-requires : tie.Need-read-four-requires Inv-loop μ-loop
+read-four-requires c κs =
     let k = some-left _ _ _ _ _ _ (c .before .before .loop .inv) (c .before .loop-test .taken) _ (c .before .before .before .before .pre .0) (c .before .before .before .before .fits .mask .fits) in
-    (omega arith, room _ _ _ _ _ _ (c .before .before .loop .inv) k (c .if1 .taken) (c .before .before .before .before .pre .1))
+    room _ _ _ _ _ _ (c .before .before .loop .inv) k (c .if1 .taken) (c .before .before .before .before .pre .1)
 
 -- src/lib.rt:76:17
 returns : tie.Need-returns Inv-loop μ-loop
@@ -32,7 +32,7 @@ returns c =
     let l = c .before .before .before .before in
     let k = some-left _ _ _ _ _ _ (c .before .before .before .before .loop .inv) (c .before .before .before .loop-test .taken) _ (c .before .before .before .before .before .before .pre .0) (c .before .before .before .before .before .before .fits .mask .fits) in
     record {
-      tells = over _ _ _ _ _ _ (l .loop .inv) k (c .before .before .if1 .taken) _ (c .before .read-word .ensures) (c .if2 .taken);
+      tells = over _ _ _ _ _ _ (l .loop .inv) k (c .before .before .if1 .taken) _ (c .before .read-four .ensures) (c .if2 .taken);
       all = λ e. let z : _≡_ {A = ℕ} 0 1 = cc in absurd (omega arith);
     }
 
@@ -79,7 +79,7 @@ read-counts-spec =
     Inv-loop
     μ-loop
     loop-holds
-    read-word-requires
+    read-four-requires
     returns
     mul-counts
     array-write-counts

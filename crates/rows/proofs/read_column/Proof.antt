@@ -91,7 +91,7 @@ read-word-requires c κs =
     let z = a .before .before in
     let s = z .before .before .before .before in
     let r = column-reads (s .pre .0) _ _ (s .pre .1 .0) (s .pre .1 .1) (z .wide .ensures .0) (a .wide2 .ensures .0) (b .wide3 .ensures .0) (d .wide4 .ensures .0) in
-    (r .narrow, r .within)
+    (r .sized, r .within)
 
 returns : tie.Need-returns
 returns c =
