@@ -1,26 +1,28 @@
 -- A step after a number, and after a refusal. Assumes nothing.
 use mathlib.Core.Path.{_≡_, refl, subst}
-use mathlib.Core.List.{List, []}
+use mathlib.Core.List.{List, [], _∷_}
 use Prim.Native.Nat.{ℕ}
-use Rattle.buffers.specs.Texts.{Text}
+use Rattle.buffers.specs.Texts.{Text, decimal}
 use Rattle.buffers.specs.Writes.{Wrote}
 use Rattle.buffers.specs.Replies.{replySays}
+use Rattle.buffers.proofs.Writing.{wrote-then, wrote-anew}
 use Rattle.buffers.specs.declared.Refusal.{Refusal}
 use Rattle.buffers.specs.declared.Reply.{Reply}
 use Rattle.buffers.specs.declared.Reply.the-variants.{Is, No}
-use Rattle.lines.specs.Lines.{refusedLine, answerLine, numberLine}
+use Rattle.lines.specs.Lines.{line, refusedLine, answerLine}
 use Rattle.lines.specs.Cursors.{Went}
 use Rattle.lines.specs.declared.Cursor.{Cursor}
 
--- A step after a number.
-module _ (key : Text) {p : Reply} {next : Cursor} {o o′ : List ℕ} {at e : ℕ} where
-  pub number-goes : {n : ℕ} → p ≡ Is n → Wrote o at (numberLine key n) o′ e
-      → Went (answerLine key (replySays p)) next o at o′ (record { next = next; at = e })
-  number-goes f w = rw f (record { wrote = w; goes = refl })
+-- A step after a number, or after none, behind a key.
+module _ {p : Reply} {next : Cursor} {o o₁ : List ℕ} {at start : ℕ} {key : Text} (k : Wrote o at key o₁ start) where
+  pub number-goes : {o₂ o₃ : List ℕ} {n end e : ℕ} → p ≡ Is n → Wrote o₁ start (decimal n) o₂ end → Wrote o₂ end (0x0A ∷ []) o₃ e
+      → Went (answerLine key (replySays p)) next o at o₃ (record { next = next; at = e })
+  unfolding line
+  number-goes f d w = rw f (record { wrote = wrote-then k (wrote-then d w); goes = refl })
 
-  pub refused-goes : {why : Refusal} → p ≡ No why → Wrote o at [] o′ e
-      → Went (answerLine key (replySays p)) next o at o′ (record { next = next; at = e })
-  refused-goes f w = rw f (record { wrote = w; goes = refl })
+  pub refused-goes : {o₂ : List ℕ} {e : ℕ} {why : Refusal} → p ≡ No why → Wrote o₁ at [] o₂ e
+      → Went (answerLine key (replySays p)) next o at o₂ (record { next = next; at = e })
+  refused-goes f w = rw f (record { wrote = wrote-anew (k .keeps) w; goes = refl })
 
 -- A step by what was written and where it goes.
 went : {t : Text} {to next : Cursor} {o o′ : List ℕ} {at e : ℕ} → next ≡ to → Wrote o at t o′ e

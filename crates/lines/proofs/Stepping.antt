@@ -15,33 +15,15 @@ use Rattle.record.specs.Answers.{classCount, classFlags, className, genericName
 use Rattle.tables.specs.Extents.{walkSays, walkOf}
 use Rattle.tables.specs.declared.Extents.{Extents}
 use Rattle.lines.specs.Lines.{numberLine, refusedLine, answerLine, nameLine, hasLine}
-use Rattle.lines.specs.Cursors.{cursor, done, nextNumber, stopLine, afterStop, lineAt, nextAt, Went, Stepped}
+use Rattle.lines.specs.Cursors.{cursor, done, nextNumber, stopLine, afterStop, lineAt, nextAt, ShowsNumber, ShowsName, Went, Stepped}
 use Rattle.lines.specs.declared.Place.the-variants.{Stop, Classes, Class, Flags, Generic, Base, Method, MethodFlags, MethodGeneric, Returns, ParamType, ParamName, Done}
 use Rattle.lines.specs.declared.Cursor.{Cursor}
 use Rattle.lines.specs.declared.Step.{Step}
 
--- The cursors that the code made, and the cursors of the definition: after a name, and after a number.
-to-name : (key : Text) (a : Answer Text) {x y x′ y′ : Cursor} {o o′ : List ℕ} {at : ℕ} {s : Step}
-    → x ≡ x′ → y ≡ y′ → Went (nameLine key a) (cond (hasLine a) x y) o at o′ s → Went (nameLine key a) (cond (hasLine a) x′ y′) o at o′ s
-to-name key a {y = y} {x′ = x′} e f w =
-    record { wrote = w .wrote; goes = w .goes ∙ ap (λ (x : Cursor). cond (hasLine a) x y) e ∙ ap (cond (hasLine a) x′) f }
-
-to-number : (key : Text) (a : Answer ℕ) {x x′ : Cursor} {o o′ : List ℕ} {at : ℕ} {s : Step}
-    → x ≡ x′ → Went (answerLine key a) x o at o′ s → Went (answerLine key a) x′ o at o′ s
-to-number key a f w = record { wrote = w .wrote; goes = w .goes ∙ f }
-
--- After a name behind which it goes on alike, whether there is a line or not.
-either-way : (b : Bool) {x : Cursor} → cond b x x ≡ x
+-- Where a name goes on alike, whether there is a line or not.
+either-way : (b : Bool) {x : Cursor} → x ≡ cond b x x
 either-way true = refl
 either-way false = refl
-
-to-either : (key : Text) (a : Answer Text) {x x′ : Cursor} {o o′ : List ℕ} {at : ℕ} {s : Step}
-    → x ≡ x′ → Went (nameLine key a) (cond (hasLine a) x x) o at o′ s → Went (nameLine key a) x′ o at o′ s
-to-either key a f w = record { wrote = w .wrote; goes = w .goes ∙ either-way (hasLine a) ∙ f }
-
--- A cursor at the next number.
-next-is : (make : ℕ → Cursor) {n k : ℕ} {x : Cursor} → k ≡ n → x ≡ make k → x ≡ make n
-next-is make e f = f ∙ ap make e
 
 -- The first line.
 module _ {r : Reply} {o o′ : List ℕ} {at : ℕ} where
@@ -62,70 +44,74 @@ stop-goes options tables strings blob c m i w e g =
     rw is at g
 
 -- The other places.
-module _ (v : View) (c m i : ℕ) {o o′ : List ℕ} {at : ℕ} {s : Step} where
-  pub classes-goes : {x : Cursor} → x ≡ cursor Class 0 0 0 → Went (answerLine (q "classes=") (classCount v)) x o at o′ s
-      → Stepped v (cursor Classes c m i) o at o′ s
-  unfolding lineAt nextAt
-  classes-goes f w = to-number (q "classes=") (classCount v) f w
+module _ (v : View) (c : Cursor) where
+  abbrev k : ℕ
+  k = c .class .0
 
-  pub class-goes : {x y : Cursor} → x ≡ cursor Flags c 0 0 → y ≡ done
-      → Went (nameLine (q "class=") (className v c)) (cond (hasLine (className v c)) x y) o at o′ s
-      → Stepped v (cursor Class c m i) o at o′ s
+  pub classes-shows : {x : Cursor} → c .place ≡ Classes → x ≡ cursor Class 0 0 0 → ShowsNumber v c (q "classes=") (classCount v) x
   unfolding lineAt nextAt
-  class-goes e f w = to-name (q "class=") (className v c) e f w
+  classes-shows e f = record { line = rw e; next = rw (e, f) }
 
-  pub flags-goes : {x : Cursor} → x ≡ cursor Generic c 0 0 → Went (answerLine (q "flags=") (classFlags v c)) x o at o′ s
-      → Stepped v (cursor Flags c m i) o at o′ s
+  pub class-shows : {x y : Cursor} → c .place ≡ Class → x ≡ cursor Flags k 0 0 → y ≡ done
+      → ShowsName v c (q "class=") (className v k) x y
   unfolding lineAt nextAt
-  flags-goes f w = to-number (q "flags=") (classFlags v c) f w
+  class-shows e f g = record { line = rw e; next = rw (e, f, g) }
 
-  pub generic-goes : {k : ℕ} {x y : Cursor} → k ≡ nextNumber i → x ≡ cursor Generic c 0 k → y ≡ cursor Base c 0 0
-      → Went (nameLine (q "generic=") (genericName v c i)) (cond (hasLine (genericName v c i)) x y) o at o′ s
-      → Stepped v (cursor Generic c m i) o at o′ s
+  pub flags-shows : {x : Cursor} → c .place ≡ Flags → x ≡ cursor Generic k 0 0 → ShowsNumber v c (q "flags=") (classFlags v k) x
   unfolding lineAt nextAt
-  generic-goes g e f w = to-name (q "generic=") (genericName v c i) (next-is (cursor Generic c 0) g e) f w
+  flags-shows e f = record { line = rw e; next = rw (e, f) }
 
-  pub base-goes : {k : ℕ} {x y : Cursor} → k ≡ nextNumber i → x ≡ cursor Base c 0 k → y ≡ cursor Method c 0 0
-      → Went (nameLine (q "base=") (baseName v c i)) (cond (hasLine (baseName v c i)) x y) o at o′ s
-      → Stepped v (cursor Base c m i) o at o′ s
+  pub generic-shows : {j : ℕ} {x y : Cursor} → c .place ≡ Generic → j ≡ nextNumber (c .i) → x ≡ cursor Generic k 0 j
+      → y ≡ cursor Base k 0 0 → ShowsName v c (q "generic=") (genericName v k (c .i)) x y
   unfolding lineAt nextAt
-  base-goes g e f w = to-name (q "base=") (baseName v c i) (next-is (cursor Base c 0) g e) f w
+  generic-shows e n f g = record { line = rw e; next = rw (e, f, g, n) }
 
-  pub method-goes : {k : ℕ} {x y : Cursor} → x ≡ cursor MethodFlags c m 0 → k ≡ nextNumber c → y ≡ cursor Class k 0 0
-      → Went (nameLine (q "method=") (methodName v c m)) (cond (hasLine (methodName v c m)) x y) o at o′ s
-      → Stepped v (cursor Method c m i) o at o′ s
+  pub base-shows : {j : ℕ} {x y : Cursor} → c .place ≡ Base → j ≡ nextNumber (c .i) → x ≡ cursor Base k 0 j
+      → y ≡ cursor Method k 0 0 → ShowsName v c (q "base=") (baseName v k (c .i)) x y
   unfolding lineAt nextAt
-  method-goes e g f w = to-name (q "method=") (methodName v c m) e (next-is (λ (k : ℕ). cursor Class k 0 0) g f) w
+  base-shows e n f g = record { line = rw e; next = rw (e, f, g, n) }
 
-  pub method-flags-goes : {x : Cursor} → x ≡ cursor MethodGeneric c m 0 → Went (answerLine (q "mflags=") (methodFlags v c m)) x o at o′ s
-      → Stepped v (cursor MethodFlags c m i) o at o′ s
+  pub method-shows : {j : ℕ} {x y : Cursor} → c .place ≡ Method → x ≡ cursor MethodFlags k (c .method) 0 → j ≡ nextNumber k
+      → y ≡ cursor Class j 0 0 → ShowsName v c (q "method=") (methodName v k (c .method)) x y
   unfolding lineAt nextAt
-  method-flags-goes f w = to-number (q "mflags=") (methodFlags v c m) f w
+  method-shows e f n g = record { line = rw e; next = rw (e, f, g, n) }
 
-  pub method-generic-goes : {k : ℕ} {x y : Cursor} → k ≡ nextNumber i → x ≡ cursor MethodGeneric c m k → y ≡ cursor Returns c m 0
-      → Went (nameLine (q "mgeneric=") (methodGenericName v c m i)) (cond (hasLine (methodGenericName v c m i)) x y) o at o′ s
-      → Stepped v (cursor MethodGeneric c m i) o at o′ s
+  pub method-flags-shows : {x : Cursor} → c .place ≡ MethodFlags → x ≡ cursor MethodGeneric k (c .method) 0
+      → ShowsNumber v c (q "mflags=") (methodFlags v k (c .method)) x
   unfolding lineAt nextAt
-  method-generic-goes g e f w = to-name (q "mgeneric=") (methodGenericName v c m i) (next-is (cursor MethodGeneric c m) g e) f w
+  method-flags-shows e f = record { line = rw e; next = rw (e, f) }
 
-  pub returns-goes : {x : Cursor} → x ≡ cursor ParamType c m 0
-      → Went (nameLine (q "returns=") (returnType v c m)) (cond (hasLine (returnType v c m)) x x) o at o′ s
-      → Stepped v (cursor Returns c m i) o at o′ s
+  pub method-generic-shows : {j : ℕ} {x y : Cursor} → c .place ≡ MethodGeneric → j ≡ nextNumber (c .i)
+      → x ≡ cursor MethodGeneric k (c .method) j → y ≡ cursor Returns k (c .method) 0
+      → ShowsName v c (q "mgeneric=") (methodGenericName v k (c .method) (c .i)) x y
   unfolding lineAt nextAt
-  returns-goes e w = to-either (q "returns=") (returnType v c m) e w
+  method-generic-shows e n f g = record { line = rw e; next = rw (e, f, g, n) }
 
-  pub param-type-goes : {k : ℕ} {x y : Cursor} → x ≡ cursor ParamName c m i → k ≡ nextNumber m → y ≡ cursor Method c k 0
-      → Went (nameLine (q "ptype=") (parameterType v c m i)) (cond (hasLine (parameterType v c m i)) x y) o at o′ s
-      → Stepped v (cursor ParamType c m i) o at o′ s
+  pub returns-shows : {x : Cursor} → c .place ≡ Returns → x ≡ cursor ParamType k (c .method) 0
+      → ShowsName v c (q "returns=") (returnType v k (c .method)) x x
   unfolding lineAt nextAt
-  param-type-goes e g f w = to-name (q "ptype=") (parameterType v c m i) e (next-is (λ (k : ℕ). cursor Method c k 0) g f) w
+  returns-shows e f = record { line = rw e; next = rw (e, f) (either-way (hasLine (returnType v k (c .method)))) }
 
-  pub param-name-goes : {k : ℕ} {x : Cursor} → k ≡ nextNumber i → x ≡ cursor ParamType c m k
-      → Went (nameLine (q "pname=") (parameterName v c m i)) (cond (hasLine (parameterName v c m i)) x x) o at o′ s
-      → Stepped v (cursor ParamName c m i) o at o′ s
+  pub param-type-shows : {j : ℕ} {x y : Cursor} → c .place ≡ ParamType → x ≡ cursor ParamName k (c .method) (c .i)
+      → j ≡ nextNumber (c .method) → y ≡ cursor Method k j 0 → ShowsName v c (q "ptype=") (parameterType v k (c .method) (c .i)) x y
   unfolding lineAt nextAt
-  param-name-goes g e w = to-either (q "pname=") (parameterName v c m i) (next-is (cursor ParamType c m) g e) w
+  param-type-shows e f n g = record { line = rw e; next = rw (e, f, g, n) }
 
-  pub done-goes : s .next ≡ done → Wrote o at [] o′ (s .at) → Stepped v (cursor Done c m i) o at o′ s
+  pub param-name-shows : {j : ℕ} {x : Cursor} → c .place ≡ ParamName → j ≡ nextNumber (c .i) → x ≡ cursor ParamType k (c .method) j
+      → ShowsName v c (q "pname=") (parameterName v k (c .method) (c .i)) x x
   unfolding lineAt nextAt
-  done-goes e w = record { wrote = w; goes = e }
+  param-name-shows e n f = record { line = rw e; next = rw (e, f, n) (either-way (hasLine (parameterName v k (c .method) (c .i)))) }
+
+pub done-goes : (v : View) (c m i : ℕ) {o o′ : List ℕ} {at : ℕ} {s : Step} → s .next ≡ done → Wrote o at [] o′ (s .at)
+    → Stepped v (cursor Done c m i) o at o′ s
+unfolding lineAt nextAt
+done-goes v c m i e w = record { wrote = w; goes = e }
+
+-- A step by what the line shows.
+module _ {v : View} {c : Cursor} {key : Text} {o o′ : List ℕ} {at : ℕ} {s : Step} where
+  pub number-steps : {a : Answer ℕ} {to : Cursor} → ShowsNumber v c key a to → Went (answerLine key a) to o at o′ s → Stepped v c o at o′ s
+  number-steps h w = rw (h .line, h .next) w
+
+  pub name-steps : {a : Answer Text} {more past : Cursor} → ShowsName v c key a more past
+      → Went (nameLine key a) (cond (hasLine a) more past) o at o′ s → Stepped v c o at o′ s
+  name-steps h w = rw (h .line, h .next) w

@@ -76,6 +76,16 @@ lineAt v c = placeLine v (c .place) (c .class .0) (c .method) (c .i)
 unfoldable pub nextAt : View → Cursor → Cursor
 nextAt v c = placeNext v (c .place) (c .class .0) (c .method) (c .i)
 
+-- The line at a cursor shows the number that is an answer, behind a key, and goes on there.
+pub record ShowsNumber (v : View) (c : Cursor) (key : Text) (a : Answer ℕ) (to : Cursor) : Type 0 where
+  pub line : lineAt v c ≡ answerLine key a
+  pub next : nextAt v c ≡ to
+
+-- It shows the name that is an answer. Where it goes on depends on whether there is a line.
+pub record ShowsName (v : View) (c : Cursor) (key : Text) (a : Answer Text) (more past : Cursor) : Type 0 where
+  pub line : lineAt v c ≡ nameLine key a
+  pub next : nextAt v c ≡ cond (hasLine a) more past
+
 -- What a step does with a lent buffer: a line is appended, and the next cursor handed out.
 pub record Went (t : Text) (to : Cursor) (before : List ℕ) (at : ℕ) (after : List ℕ) (s : Step) : Type 0 where
   pub wrote : Wrote before at t after (s .at)

@@ -2,7 +2,7 @@
 use mathlib.Core.Bool.{Bool, true, cond, _||_}
 use mathlib.Core.List.{[], _∷_, _++_}
 use mathlib.Core.Option.{Option, none, some}
-use Prim.Native.Nat.{ℕ}
+use Prim.Native.Nat.{ℕ, _+_}
 use lib.Dec.{eqb, leb}
 use lib.ListN.{length}
 use Rattle.buffers.specs.Texts.{Text, q, decimal}
@@ -19,6 +19,13 @@ numberLine key n = line key (decimal n)
 -- A name as it stands; `!` where it is longer than 4,096 bytes.
 abbrev pub longest : ℕ
 longest = 4096
+
+-- No key of a name has more bytes than this; and so no line of a name more than that.
+abbrev pub longestKey : ℕ
+longestKey = 16
+
+abbrev pub lineRoom : ℕ
+lineRoom = longestKey + longest + 1
 
 unfoldable pub shown : Text → Text
 shown t = cond (leb (length t) longest) t (q "!")

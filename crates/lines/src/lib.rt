@@ -9,21 +9,22 @@ use buffers::refusal_number;
 use classes::ClassNumber;
 ghost use mathlib.Core.Path.{_≡_};
 ghost use mathlib.Core.List.{List, []};
-ghost use Prim.Native.Nat.{ℕ};
+ghost use Prim.Native.Nat.{ℕ, _+_, _≤_};
 ghost use lib.ListN.{length};
 ghost use Rattle.buffers.specs.Texts.{Text};
 ghost use Rattle.buffers.specs.Writes.{Wrote, Kept};
 ghost use Rattle.buffers.specs.Replies.{number, replySays};
 ghost use Rattle.lines.specs.Lines.{line, longest, shown, numberLine, refusedLine, answerLine};
-ghost use Rattle.lines.specs.Ending.{Ending};
 ghost use Rattle.lines.specs.Cursors.{cursor, first, done, nextNumber, Went};
-ghost use Rattle.lines.specs.declared.Ended.the-variants.{Unsure};
 
 // What ends a line.
 const LINE_END: u8 = b'\n';
 
 // The bytes of the longest name that is shown. For a longer one there stands `!`.
-pub const LONGEST: usize = 4096;
+const LONGEST: usize = 4096;
+
+// Room for any line of a name: its key, the name, and the line's end.
+pub const LINE_ROOM: usize = 4113;
 
 // What the next line is about.
 pub enum Place {
@@ -54,12 +55,6 @@ pub struct Cursor {
 pub struct Step {
     pub next: Cursor,
     pub at: usize,
-}
-
-// What ending the line of a name came to: the place after the line; or that there is no room for the name, which may be too long or not.
-pub enum Ended {
-    At(usize),
-    Unsure,
 }
 
 pub fn cursor_at(place: Place, class: ClassNumber, method: u32, i: u32) -> Cursor
@@ -121,40 +116,17 @@ pub fn push_number(out: &mut [u8], at: usize, key: &[u8], n: usize) -> usize
     put(out, end, LINE_END)
 }
 
-// End the line of a name that was written from one place to another, behind its key.
-pub fn end_name(out: &mut [u8], start: usize, end: usize) -> Ended
+// End the line of a name that was written from one place to another, behind its key. There is room for a name that is not too long.
+pub fn end_name(out: &mut [u8], start: usize, end: usize) -> usize
+    requires { ⌜ (start + longest ≤ length (now out)) × (start ≤ end) ⌝ }
     ensures { λ r.
-        ⌜ ((o o₁ : List ℕ) (at : ℕ) (key t : Text) → Wrote o at key o₁ start → Wrote o₁ start t (now (out .entry)) end → Ending key t o at
-        start (now (out .exit)) r) ⌝ }
+        ⌜ ((o o₁ : List ℕ) (at : ℕ) (key t : Text) → Wrote o at key o₁ start → Wrote o₁ start t (now (out .entry)) end → Wrote o at
+        (line key (shown t)) (now (out .exit)) r) ⌝ }
 {
-    if out.len() < end {
-        if out.len() < start {
-            return Ended::At(out.len() + 1);
-        }
-        if out.len() - start < LONGEST {
-            return Ended::Unsure;
-        }
-        return Ended::At(push(out, start, b"!\n"));
-    }
-    if end < start {
-        return Ended::At(put(out, end, LINE_END));
-    }
     if LONGEST < end - start {
-        return Ended::At(push(out, start, b"!\n"));
-    }
-    Ended::At(put(out, end, LINE_END))
-}
-
-// The same of a name for which there was no room, by the place after it in a buffer of 4,096 bytes.
-pub fn end_unsure(out: &mut [u8], start: usize, end: usize) -> usize
-    ensures { λ r.
-        ⌜ ((o s s′ : List ℕ) (at : ℕ) (key t : Text) → Ending key t o at start (now (out .entry)) Unsure → length s ≡ longest → Wrote s 0 t
-        s′ end → Wrote o at (line key (shown t)) (now (out .exit)) r) ⌝ }
-{
-    if LONGEST < end {
         return push(out, start, b"!\n");
     }
-    out.len() + 1
+    put(out, end, LINE_END)
 }
 
 // End the line of a name that is missing: its key stands alone.
@@ -166,19 +138,24 @@ pub fn end_missing(out: &mut [u8], start: usize) -> usize
     put(out, start, LINE_END)
 }
 
-// The line of a number by a call's reply, and where it goes on.
-pub fn number_step(out: &mut [u8], at: usize, key: &[u8], reply: Reply, next: Cursor) -> Step
-    ensures { λ r. ⌜ Went (answerLine (now (key .entry)) (replySays reply)) next (now (out .entry)) at (now (out .exit)) r ⌝ }
+// The line of a number by a call's reply, behind its key, and where it goes on.
+pub fn end_number(out: &mut [u8], at: usize, start: usize, reply: Reply, next: Cursor) -> Step
+    ensures { λ r.
+        ⌜ ((o : List ℕ) (key : Text) → Wrote o at key (now (out .entry)) start → Went (answerLine key (replySays reply)) next o at
+        (now (out .exit)) r) ⌝ }
 {
     match reply {
         Reply::Is(n) => {
-            let end = push_number(out, at, key, n);
-            Step { next, at: end }
+            let end = push_decimal(out, start, n);
+            Step {
+                next,
+                at: put(out, end, LINE_END),
+            }
         }
-        Reply::No(_) => {
-            let end = push_nothing(out, at);
-            Step { next, at: end }
-        }
+        Reply::No(_) => Step {
+            next,
+            at: push_nothing(out, at),
+        },
     }
 }
 

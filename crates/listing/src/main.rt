@@ -7,16 +7,26 @@ use bundle::Bundle;
 use header::Opened;
 use header::Options;
 use lines::Cursor;
+use listing_steps::MOST_STEPS;
 use rows::columns;
 ghost use mathlib.Core.Path.{_≡_};
 ghost use mathlib.Core.List.{List};
-ghost use Prim.Native.Nat.{ℕ};
+ghost use Prim.Native.Nat.{ℕ, _≤_};
+ghost use lib.ListN.{length};
 ghost use Rattle.record.specs.View.{view};
+ghost use Rattle.rows.specs.Columns as columns;
 ghost use Rattle.rows.specs.Layout.{Laid, viewIn};
 ghost use Rattle.answers.specs.Known.{Knows};
 
-// Words for the layout, and for the rows by key of every input that the program takes.
+// Bytes of a piece of the listing.
+const PIECE: usize = 16_384;
+
+// Words for the layout, and for the rows by key of every input that the program takes; and of one whose tables have at most so many bytes.
 const WORDS: usize = 19_000;
+
+const FEW_WORDS: usize = 2_500;
+
+const FEW_BYTES: usize = 8_192;
 
 // Where the listing goes on after a piece, what is known, and whether the piece was written.
 struct Written {
@@ -32,7 +42,7 @@ fn write_refused(why: Refusal) -> bool {
     io::write_all(1, numbers::cut(&space, 0, step.at))
 }
 
-// Writes one piece of the listing, as much as a buffer holds.
+// Writes one piece of the listing, as long as there is room for any line.
 fn write_piece(
     tables: &[u8],
     strings: &[u8],
@@ -41,6 +51,7 @@ fn write_piece(
     layout: &[u32],
     from: Cursor,
     known: Known,
+    space: &mut [u8],
 ) -> Written
     requires { ⌜ Laid (now tables) (now layout) ⌝ }
     requires { ⌜ ((s b : List ℕ) → viewIn (now tables) (now layout) s b ≡ view options (now tables) s b) ⌝ }
@@ -48,8 +59,7 @@ fn write_piece(
     ensures { λ r. let v = viewIn (now (tables .entry)) (now (layout .entry)) (now (strings .entry)) (now (blob .entry)) in
         ⌜ Knows v (now (blob .entry)) (r .known) ⌝ }
 {
-    let mut space = io::large_buffer();
-    let on = listing_steps::fill_opened(
+    let reached = listing_steps::fill_lines(
         tables,
         strings,
         blob,
@@ -57,12 +67,13 @@ fn write_piece(
         layout,
         from,
         known,
-        &mut space,
+        MOST_STEPS,
+        space,
     );
-    let step = on.step;
+    let step = reached.step;
     let next = step.next;
-    let after = on.known;
-    let whole = io::write_all(1, numbers::cut(&space, 0, step.at));
+    let after = reached.known;
+    let whole = io::write_all(1, numbers::cut(space, 0, step.at));
     Written {
         next,
         known: after,
@@ -81,6 +92,7 @@ fn write_pieces(
     requires { ⌜ Laid (now tables) (now layout) ⌝ }
     requires { ⌜ ((s b : List ℕ) → viewIn (now tables) (now layout) s b ≡ view options (now tables) s b) ⌝ }
 {
+    let mut space = [0u8; PIECE];
     let mut cursor = lines::first_cursor();
     let mut known = answers::nothing_known();
     let mut turns: u64 = 0xFFFF_FFFF_FFFF_FFFF;
@@ -88,7 +100,16 @@ fn write_pieces(
         if listing_steps::is_done(cursor) {
             return true;
         }
-        let written = write_piece(tables, strings, blob, options, layout, cursor, known);
+        let written = write_piece(
+            tables,
+            strings,
+            blob,
+            options,
+            layout,
+            cursor,
+            known,
+            &mut space,
+        );
         if !written.whole {
             return false;
         }
@@ -99,6 +120,42 @@ fn write_pieces(
     false
 }
 
+// The same, with memories of rows by key in lent words.
+fn write_held(
+    tables: &[u8],
+    strings: &[u8],
+    blob: &[u8],
+    options: Options,
+    layout: &[u32],
+    work: &mut [u32],
+) -> bool
+    requires { ⌜ Laid (now tables) (now layout) ⌝ }
+    requires { ⌜ ((s b : List ℕ) → viewIn (now tables) (now layout) s b ≡ view options (now tables) s b) ⌝ }
+    requires { ⌜ columns.size ≤ length (now work) ⌝ }
+{
+    holding::hold(work, tables, layout);
+    write_pieces(tables, strings, blob, options, work)
+}
+
+// The same, with as many words as serve the tables.
+fn write_opened(
+    tables: &[u8],
+    strings: &[u8],
+    blob: &[u8],
+    options: Options,
+    layout: &[u32],
+) -> bool
+    requires { ⌜ Laid (now tables) (now layout) ⌝ }
+    requires { ⌜ ((s b : List ℕ) → viewIn (now tables) (now layout) s b ≡ view options (now tables) s b) ⌝ }
+{
+    if tables.len() <= FEW_BYTES {
+        let mut few = [0u32; FEW_WORDS];
+        return write_held(tables, strings, blob, options, layout, &mut few);
+    }
+    let mut work = [0u32; WORDS];
+    write_held(tables, strings, blob, options, layout, &mut work)
+}
+
 // The listing of three streams. The stream is opened once, and its columns are looked through once.
 fn write_streams(tables: &[u8], strings: &[u8], blob: &[u8]) -> bool {
     let options = header::base_options();
@@ -107,9 +164,7 @@ fn write_streams(tables: &[u8], strings: &[u8], blob: &[u8]) -> bool {
         Opened::Refused(why) => write_refused(why),
         Opened::Ready => {
             marks::mark_methods(tables, &mut layout);
-            let mut work = [0u32; WORDS];
-            holding::hold(&mut work, tables, &layout);
-            write_pieces(tables, strings, blob, options, &work)
+            write_opened(tables, strings, blob, options, &layout)
         }
     }
 }

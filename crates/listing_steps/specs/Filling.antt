@@ -2,7 +2,7 @@
 use mathlib.Core.Path.{_≡_}
 use mathlib.Core.Bool.{Bool, true, false, cond}
 use mathlib.Core.List.{List, [], _++_}
-use Prim.Native.Nat.{ℕ, zero, suc, _+_, min}
+use Prim.Native.Nat.{ℕ, zero, suc, _+_, _<_, _≤_, min}
 use lib.Dec.{leb}
 use lib.ListN.{length}
 use Rattle.buffers.specs.Texts.{Text}
@@ -11,12 +11,13 @@ use Rattle.buffers.specs.Replies.{Answer, refused, value, nameBuffer}
 use Rattle.bundle.specs.Input.{Inputs, bundleOf, bundleSays}
 use Rattle.header.specs.Stream.{base}
 use Rattle.record.specs.View.{View, view}
-use Rattle.lines.specs.Lines.{refusedLine}
+use Rattle.lines.specs.Lines.{lineRoom, refusedLine}
 use Rattle.lines.specs.Cursors.{done, lineAt, nextAt}
 use Rattle.lines.specs.declared.Place.{Place}
 use Rattle.lines.specs.declared.Place.the-variants.{Stop, Classes, Class, Flags, Generic, Base, Method, MethodFlags, MethodGeneric, Returns, ParamType, ParamName, Done}
 use Rattle.lines.specs.declared.Cursor.{Cursor}
 use Rattle.lines.specs.declared.Step.{Step}
+use Rattle.listing_steps.specs.declared.Reached.{Reached}
 
 abbrev pub isDone : Place → Bool
 isDone Stop = false
@@ -65,6 +66,19 @@ inputPiece s room c = answerPiece (bundleSays s (bundleOf s)) room c
 pub record Pieced (p : Piece) (before after : List ℕ) (s : Step) : Type 0 where
   pub wrote : Wrote before 0 (p .text) after (s .at)
   pub goes : s .next ≡ p .next
+
+-- A text stands in the buffer, and what is left to do from the cursor on gives the whole piece p.
+pub record Going (v : View) (p : Piece) (b b′ : List ℕ) (c : Cursor) (at steps : ℕ) : Type 0 where
+  pub text : Text
+  pub wrote : Wrote b 0 text b′ at
+  pub fits : length text ≤ length b
+  pub rest : pieceFrom v (length b) steps text c ≡ p
+
+-- Some of the steps of a piece were taken, as long as there was room for any line.
+pub record Reaches (v : View) (c : Cursor) (steps : ℕ) (b b′ : List ℕ) (r : Reached) : Type 0 where
+  pub going : Going v (pieceFrom v (length b) steps [] c) b b′ (r .step .next) (r .step .at) (r .left)
+  pub room : 0 < r .left → length b < r .step .at + lineRoom
+  pub fewer : 0 < r .step .at → r .left < steps
 
 -- What a call for a piece does with a lent buffer: it holds the text and then zeros, or zeros alone where the text does not fit; and the
 -- bytes of the text are told, or one more than the buffer has.

@@ -1,12 +1,15 @@
-// The listing step by step: the line at each place of the cursor, and as many lines as a buffer holds, over a stream that is opened.
+// The listing step by step: the line at each place of the cursor, and as many lines as a buffer holds, over a stream that is opened. Most
+// lines are written where they belong. Where there is less room than the line of a name may take, each is made elsewhere first.
 use answer_lines::Onward;
 use answer_lines::name_line;
 use answer_lines::number_line;
 use answers::Known;
 use buffers::Reply;
+use buffers::push;
 use classes::ClassNumber;
 use header::Options;
 use lines::Cursor;
+use lines::LINE_ROOM;
 use lines::Place;
 use lines::Step;
 use lines::cursor_at;
@@ -14,16 +17,46 @@ use lines::next_number;
 use questions::NameQuestion;
 use questions::NumberQuestion;
 ghost use mathlib.Core.Path.{_≡_};
-ghost use mathlib.Core.List.{List};
-ghost use Prim.Native.Nat.{ℕ};
+ghost use mathlib.Core.List.{List, []};
+ghost use Prim.Native.Nat.{ℕ, _+_, _≤_};
 ghost use lib.ListN.{length};
 ghost use Rattle.buffers.specs.Replies.{replySays};
 ghost use Rattle.record.specs.View.{View, view};
 ghost use Rattle.rows.specs.Layout.{Laid, viewIn};
 ghost use Rattle.answers.specs.Known.{Knows};
 ghost use Rattle.lines.specs.Cursors.{cursor, stopLine, afterStop, Went, Stepped};
+ghost use Rattle.lines.specs.Lines.{lineRoom};
+ghost use Rattle.lines.specs.declared.Cursor.{Cursor as At};
 ghost use Rattle.lines.specs.declared.Place.the-variants.{Stop, Done};
-ghost use Rattle.listing_steps.specs.Filling.{isDone, pieceOf, Pieced};
+ghost use Rattle.listing_steps.specs.Beginning.{Begun};
+ghost use Rattle.listing_steps.specs.Filling.{isDone, pieceFrom, pieceOf, Pieced, Reaches};
+
+// A piece takes at most this many steps, some of which add no line.
+pub const MOST_STEPS: u32 = 65_536;
+
+// A line that has begun, behind its key: the question whose answer it shows, and where it goes on.
+pub enum Line {
+    Stop,
+    Number {
+        start: usize,
+        question: NumberQuestion,
+        next: Cursor,
+    },
+    Name {
+        start: usize,
+        question: NameQuestion,
+        more: Cursor,
+        past: Cursor,
+    },
+    Done,
+}
+
+// How far some steps went, what is known after them, and how many are left: none where the piece has its last line.
+pub struct Reached {
+    pub step: Step,
+    pub known: Known,
+    pub left: u32,
+}
 
 // Whether a listing is at its end.
 pub fn is_done(c: Cursor) -> bool
@@ -76,8 +109,91 @@ fn stop_line(
     stop_step(out, at, answer)
 }
 
-// One step over an opened stream: the line at a cursor is appended, if it has one, and the next cursor handed out. Each place is a line of
-// this table: its key, its question, and where it goes on.
+// Begin the line at a cursor: its key is written. Each place is a row of this table: its key, its question, and where it goes on.
+fn begin_line(out: &mut [u8], at: usize, c: Cursor) -> Line
+    ensures { λ r. ⌜ ((v : View) → Begun v c (now (out .entry)) at (now (out .exit)) r) ⌝ }
+{
+    let place = c.place;
+    let class = c.class;
+    let m = c.method;
+    let i = c.i;
+    match place {
+        Place::Stop => Line::Stop,
+        Place::Classes => Line::Number {
+            start: push(out, at, b"classes="),
+            question: NumberQuestion::ClassCount,
+            next: cursor_at(Place::Class, ClassNumber(0), 0, 0),
+        },
+        Place::Class => Line::Name {
+            start: push(out, at, b"class="),
+            question: NameQuestion::ClassName(class),
+            more: cursor_at(Place::Flags, class, 0, 0),
+            past: lines::done_cursor(),
+        },
+        Place::Flags => Line::Number {
+            start: push(out, at, b"flags="),
+            question: NumberQuestion::ClassFlags(class),
+            next: cursor_at(Place::Generic, class, 0, 0),
+        },
+        Place::Generic => Line::Name {
+            start: push(out, at, b"generic="),
+            question: NameQuestion::GenericName(class, i),
+            more: cursor_at(Place::Generic, class, 0, next_number(i)),
+            past: cursor_at(Place::Base, class, 0, 0),
+        },
+        Place::Base => Line::Name {
+            start: push(out, at, b"base="),
+            question: NameQuestion::BaseName(class, i),
+            more: cursor_at(Place::Base, class, 0, next_number(i)),
+            past: cursor_at(Place::Method, class, 0, 0),
+        },
+        Place::Method => Line::Name {
+            start: push(out, at, b"method="),
+            question: NameQuestion::MethodName(class, m),
+            more: cursor_at(Place::MethodFlags, class, m, 0),
+            past: cursor_at(Place::Class, lines::next_class(class), 0, 0),
+        },
+        Place::MethodFlags => Line::Number {
+            start: push(out, at, b"mflags="),
+            question: NumberQuestion::MethodFlags(class, m),
+            next: cursor_at(Place::MethodGeneric, class, m, 0),
+        },
+        Place::MethodGeneric => Line::Name {
+            start: push(out, at, b"mgeneric="),
+            question: NameQuestion::MethodGenericName(class, m, i),
+            more: cursor_at(Place::MethodGeneric, class, m, next_number(i)),
+            past: cursor_at(Place::Returns, class, m, 0),
+        },
+        Place::Returns => {
+            let next = cursor_at(Place::ParamType, class, m, 0);
+            Line::Name {
+                start: push(out, at, b"returns="),
+                question: NameQuestion::ReturnType(class, m),
+                more: next,
+                past: next,
+            }
+        }
+        Place::ParamType => Line::Name {
+            start: push(out, at, b"ptype="),
+            question: NameQuestion::ParamType(class, m, i),
+            more: cursor_at(Place::ParamName, class, m, i),
+            past: cursor_at(Place::Method, class, next_number(m), 0),
+        },
+        Place::ParamName => {
+            let next = cursor_at(Place::ParamType, class, m, next_number(i));
+            Line::Name {
+                start: push(out, at, b"pname="),
+                question: NameQuestion::ParamName(class, m, i),
+                more: next,
+                past: next,
+            }
+        }
+        Place::Done => Line::Done,
+    }
+}
+
+// One step over an opened stream: the line at a cursor is appended, if it has one, and the next cursor handed out. There is room for the
+// line of any name.
 fn next_line(
     tables: &[u8],
     strings: &[u8],
@@ -92,169 +208,165 @@ fn next_line(
     requires { ⌜ Laid (now tables) (now layout) ⌝ }
     requires { ⌜ ((s b : List ℕ) → viewIn (now tables) (now layout) s b ≡ view options (now tables) s b) ⌝ }
     requires { ⌜ Knows (viewIn (now tables) (now layout) (now strings) (now blob)) (now blob) known ⌝ }
+    requires { ⌜ at + lineRoom ≤ length (now out) ⌝ }
     ensures { λ r. let v = view options (now (tables .entry)) (now (strings .entry)) (now (blob .entry)) in
         ⌜ Stepped v c (now (out .entry)) at (now (out .exit)) (r .step) × Knows
         (viewIn (now (tables .entry)) (now (layout .entry)) (now (strings .entry)) (now (blob .entry))) (now (blob .entry)) (r .known) ⌝ }
 {
-    let place = c.place;
-    let class = c.class;
-    let m = c.method;
-    let i = c.i;
-    match place {
-        Place::Stop => {
+    match begin_line(out, at, c) {
+        Line::Stop => {
             let step = stop_line(tables, strings, blob, options, out, at);
             Onward { step, known }
         }
-        Place::Classes => number_line(
+        Line::Number {
+            start,
+            question,
+            next,
+        } => number_line(
             out,
             at,
+            start,
             tables,
             strings,
             blob,
             layout,
-            b"classes=",
-            NumberQuestion::ClassCount,
-            cursor_at(Place::Class, ClassNumber(0), 0, 0),
+            question,
+            next,
             known,
         ),
-        Place::Class => name_line(
+        Line::Name {
+            start,
+            question,
+            more,
+            past,
+        } => name_line(
             out,
             at,
+            start,
             tables,
             strings,
             blob,
             layout,
-            b"class=",
-            NameQuestion::ClassName(class),
-            cursor_at(Place::Flags, class, 0, 0),
-            lines::done_cursor(),
+            question,
+            more,
+            past,
             known,
         ),
-        Place::Flags => number_line(
-            out,
-            at,
-            tables,
-            strings,
-            blob,
-            layout,
-            b"flags=",
-            NumberQuestion::ClassFlags(class),
-            cursor_at(Place::Generic, class, 0, 0),
-            known,
-        ),
-        Place::Generic => name_line(
-            out,
-            at,
-            tables,
-            strings,
-            blob,
-            layout,
-            b"generic=",
-            NameQuestion::GenericName(class, i),
-            cursor_at(Place::Generic, class, 0, next_number(i)),
-            cursor_at(Place::Base, class, 0, 0),
-            known,
-        ),
-        Place::Base => name_line(
-            out,
-            at,
-            tables,
-            strings,
-            blob,
-            layout,
-            b"base=",
-            NameQuestion::BaseName(class, i),
-            cursor_at(Place::Base, class, 0, next_number(i)),
-            cursor_at(Place::Method, class, 0, 0),
-            known,
-        ),
-        Place::Method => name_line(
-            out,
-            at,
-            tables,
-            strings,
-            blob,
-            layout,
-            b"method=",
-            NameQuestion::MethodName(class, m),
-            cursor_at(Place::MethodFlags, class, m, 0),
-            cursor_at(Place::Class, lines::next_class(class), 0, 0),
-            known,
-        ),
-        Place::MethodFlags => number_line(
-            out,
-            at,
-            tables,
-            strings,
-            blob,
-            layout,
-            b"mflags=",
-            NumberQuestion::MethodFlags(class, m),
-            cursor_at(Place::MethodGeneric, class, m, 0),
-            known,
-        ),
-        Place::MethodGeneric => name_line(
-            out,
-            at,
-            tables,
-            strings,
-            blob,
-            layout,
-            b"mgeneric=",
-            NameQuestion::MethodGenericName(class, m, i),
-            cursor_at(Place::MethodGeneric, class, m, next_number(i)),
-            cursor_at(Place::Returns, class, m, 0),
-            known,
-        ),
-        Place::Returns => {
-            let next = cursor_at(Place::ParamType, class, m, 0);
-            name_line(
-                out,
-                at,
-                tables,
-                strings,
-                blob,
-                layout,
-                b"returns=",
-                NameQuestion::ReturnType(class, m),
-                next,
-                next,
-                known,
-            )
-        }
-        Place::ParamType => name_line(
-            out,
-            at,
-            tables,
-            strings,
-            blob,
-            layout,
-            b"ptype=",
-            NameQuestion::ParamType(class, m, i),
-            cursor_at(Place::ParamName, class, m, i),
-            cursor_at(Place::Method, class, next_number(m), 0),
-            known,
-        ),
-        Place::ParamName => {
-            let next = cursor_at(Place::ParamType, class, m, next_number(i));
-            name_line(
-                out,
-                at,
-                tables,
-                strings,
-                blob,
-                layout,
-                b"pname=",
-                NameQuestion::ParamName(class, m, i),
-                next,
-                next,
-                known,
-            )
-        }
-        Place::Done => {
+        Line::Done => {
             let step = done_line(out, at);
             Onward { step, known }
         }
+    }
+}
+
+// At most so many steps, while there is room for any line. Whoever goes on from there hands on what is known.
+pub fn fill_lines(
+    tables: &[u8],
+    strings: &[u8],
+    blob: &[u8],
+    options: Options,
+    layout: &[u32],
+    from: Cursor,
+    known: Known,
+    steps: u32,
+    out: &mut [u8],
+) -> Reached
+    requires { ⌜ Laid (now tables) (now layout) ⌝ }
+    requires { ⌜ ((s b : List ℕ) → viewIn (now tables) (now layout) s b ≡ view options (now tables) s b) ⌝ }
+    requires { ⌜ Knows (viewIn (now tables) (now layout) (now strings) (now blob)) (now blob) known ⌝ }
+    ensures { λ r. let v = view options (now (tables .entry)) (now (strings .entry)) (now (blob .entry)) in
+        ⌜ Reaches v from steps (now (out .entry)) (now (out .exit)) r × Knows
+        (viewIn (now (tables .entry)) (now (layout .entry)) (now (strings .entry)) (now (blob .entry))) (now (blob .entry)) (r .known) ⌝ }
+{
+    let mut c = from;
+    let mut k = known;
+    let mut at = 0;
+    let mut left = steps;
+    while 0 < left {
+        if is_done(c) {
+            return Reached {
+                step: Step { next: c, at },
+                known: k,
+                left: 0,
+            };
+        }
+        if out.len() - at < LINE_ROOM {
+            return Reached {
+                step: Step { next: c, at },
+                known: k,
+                left,
+            };
+        }
+        let on = next_line(tables, strings, blob, options, layout, c, k, out, at);
+        let step = on.step;
+        let end = step.at;
+        k = on.known;
+        if out.len() < end {
+            return Reached {
+                step: Step { next: c, at },
+                known: k,
+                left: 0,
+            };
+        }
+        c = step.next;
+        at = end;
+        left -= 1;
+    }
+    Reached {
+        step: Step { next: c, at },
+        known: k,
+        left,
+    }
+}
+
+// The lines that still fit where there is less room, each made in a space of its own first.
+fn fill_rest(
+    tables: &[u8],
+    strings: &[u8],
+    blob: &[u8],
+    options: Options,
+    layout: &[u32],
+    from: Reached,
+    out: &mut [u8],
+) -> Onward
+    requires { ⌜ Laid (now tables) (now layout) ⌝ }
+    requires { ⌜ ((s b : List ℕ) → viewIn (now tables) (now layout) s b ≡ view options (now tables) s b) ⌝ }
+    requires { ⌜ Knows (viewIn (now tables) (now layout) (now strings) (now blob)) (now blob) (from .known) ⌝ }
+    ensures { λ r. let v = view options (now (tables .entry)) (now (strings .entry)) (now (blob .entry)) in
+        ⌜ ((c : At) (steps : ℕ) (b : List ℕ) → Reaches v c steps b (now (out .entry)) from → Pieced (pieceFrom v (length b) steps [] c) b
+        (now (out .exit)) (r .step)) × Knows
+        (viewIn (now (tables .entry)) (now (layout .entry)) (now (strings .entry)) (now (blob .entry))) (now (blob .entry)) (r .known) ⌝ }
+{
+    let mut space = [0u8; LINE_ROOM];
+    let step = from.step;
+    let mut c = step.next;
+    let mut at = step.at;
+    let mut k = from.known;
+    let mut left = from.left;
+    while 0 < left {
+        if is_done(c) {
+            return Onward {
+                step: Step { next: c, at },
+                known: k,
+            };
+        }
+        let one = fill_lines(tables, strings, blob, options, layout, c, k, 1, &mut space);
+        let made = one.step;
+        k = one.known;
+        let after = push(out, at, numbers::cut(&space, 0, made.at));
+        if out.len() < after {
+            return Onward {
+                step: Step { next: c, at },
+                known: k,
+            };
+        }
+        c = made.next;
+        at = after;
+        left -= 1;
+    }
+    Onward {
+        step: Step { next: c, at },
+        known: k,
     }
 }
 
@@ -276,33 +388,16 @@ pub fn fill_opened(
         ⌜ Pieced (pieceOf v (length (now (out .entry))) from) (now (out .entry)) (now (out .exit)) (r .step) × Knows
         (viewIn (now (tables .entry)) (now (layout .entry)) (now (strings .entry)) (now (blob .entry))) (now (blob .entry)) (r .known) ⌝ }
 {
-    let mut c = from;
-    let mut k = known;
-    let mut at = 0;
-    let mut steps: u32 = 65_536;
-    while 0 < steps {
-        if is_done(c) {
-            return Onward {
-                step: Step { next: c, at },
-                known: k,
-            };
-        }
-        let on = next_line(tables, strings, blob, options, layout, c, k, out, at);
-        let step = on.step;
-        let end = step.at;
-        if out.len() < end {
-            return Onward {
-                step: Step { next: c, at },
-                known: k,
-            };
-        }
-        c = step.next;
-        k = on.known;
-        at = end;
-        steps -= 1;
-    }
-    Onward {
-        step: Step { next: c, at },
-        known: k,
-    }
+    let reached = fill_lines(
+        tables,
+        strings,
+        blob,
+        options,
+        layout,
+        from,
+        known,
+        MOST_STEPS,
+        out,
+    );
+    fill_rest(tables, strings, blob, options, layout, reached, out)
 }

@@ -30,7 +30,7 @@ use Rattle.lines.specs.declared.Cursor.{Cursor}
 use Rattle.lines.specs.declared.Step.{Step}
 use Rattle.lines.proofs.Place.{the-type}
 use Rattle.listing_steps.specs.Filling.{isDone, Piece, pieceFrom, pieceOf, mostSteps, Pieced}
-use Rattle.listing_steps.proofs.Filling.{at-place, is-done, goes-on, going-start, going-done, going-full, going-on}
+use Rattle.listing_steps.proofs.Filling.{is-done, goes-on, going-start, going-out, going-done, going-full, going-on}
 
 -- Opening refuses by 1, 2 or 3.
 by-tests : (short cut over : Bool) (h : Header) {why : Refusal} → h .answer ≡ Ready
@@ -154,7 +154,7 @@ module _ (o : Options) (t strings blob : List ℕ) {why : Refusal} (e : opened o
   -- What is done with a buffer.
   module _ (from : Cursor) {b : List ℕ} where
     pub refused-done : from .place ≡ at.Done → Pieced (pieceOf v (length b) from) b b (record { next = from; at = 0 })
-    refused-done f = going-done (going-start v b from mostSteps) refl (ap isDone f)
+    refused-done f = going-out (going-done (going-start v b from mostSteps) refl (ap isDone f)) (omega arith)
 
     pub refused-elsewhere : {next : Cursor} → OneOf others (tagOf the-type (from .place)) → next ≡ done
         → Pieced (pieceOf v (length b) from) b b (record { next = next; at = 0 })
@@ -165,11 +165,13 @@ module _ (o : Options) (t strings blob : List ℕ) {why : Refusal} (e : opened o
     module _ {b′ : List ℕ} {s : Step} (f : from .place ≡ at.Stop) (w : Went (refusedLine (number why)) done b 0 b′ s) where
       steps : Stepped v from b 0 b′ s
       unfolding lineAt nextAt
-      steps = at-place v from f (rw stop-is w)
+      steps = rw f (rw stop-is w)
 
       pub refused-full : length b′ < s .at → Pieced (pieceOf v (length b) from) b b′ (record { next = from; at = 0 })
-      refused-full h = going-full (going-start v b from mostSteps) steps h
+      refused-full h = going-out (going-full (going-start v b from mostSteps) steps h) (omega arith)
 
       pub refused-first : s .at ≤ length b′ → Pieced (pieceOf v (length b) from) b b′ s
       refused-first h =
-          going-done (going-on (going-start v b from mostSteps) steps (omega arith) refl (ap isDone f) h) refl (ap (λ (c : Cursor). isDone (c .place)) (w .goes))
+          going-out
+          (going-done (going-on (going-start v b from mostSteps) steps (omega arith) refl (ap isDone f) h) refl (ap (λ (c : Cursor). isDone (c .place)) (w .goes)))
+          (omega arith)
