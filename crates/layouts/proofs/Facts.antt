@@ -1,13 +1,13 @@
 -- The facts of specs/Facts.antt. Assumes nothing.
 use mathlib.Core.Path.{refl}
-use mathlib.Core.Bool.{Bool, true, false, cond}
+use mathlib.Core.Bool.{Bool, true, false, cond, _&&_}
 use mathlib.Core.List.{List, [], _∷_}
 use mathlib.Core.Logic.{inl, inr, ⊎-elim}
-use Prim.Native.Nat.{ℕ, zero, suc, _-_, _^_, _<_}
-use native.Mathlib.Nat.{not-suc-le-zero, le-of-suc-le-suc}
+use Prim.Native.Nat.{ℕ, zero, suc, _+_, _*_, _-_, _^_, _<_}
+use native.Mathlib.Nat.{not-suc-le-zero, le-of-suc-le-suc, eq-or-lt-of-le}
 use native.Mathlib.Omega.{arith}
 use borrow.Author.Tests.{lt-leb}
-use lib.Dec.{T, eqb}
+use lib.Dec.{T, eqb, eqb→eq}
 use lib.ListN.{length, getD}
 use Rattle.numbers.specs.Bits.{bitAt}
 use Rattle.numbers.specs.Fixed.{TwoOrFour}
@@ -18,9 +18,36 @@ use Rattle.layouts.specs.Columns.{HasFieldMarshall, HasDeclSecurity, Mem
 use Rattle.layouts.specs.Columns.{MemberForwarded, Implementation, CustomAttributeType, ResolutionScope, TypeOrMethodDef}
 use Rattle.layouts.specs.Columns.{tables, reaches, indexSize, heapSize, hasCustomAttribute, indexSizes, widthIn, sumOf}
 use Rattle.layouts.specs.Columns.{rowSize}
-use Rattle.layouts.specs.Facts.{ColumnsTwoOrFour, RowsHaveBytes, FewRows, FewDeclSecurity, FieldRows}
-use Rattle.layouts.proofs.Reaches.{small}
+use Rattle.layouts.specs.Facts.{HeapWidths, ColumnsTwoOrFour, RowsHaveBytes, FewRows, FewDeclSecurity, FieldRows}
+use Rattle.layouts.proofs.Reaches.{small, and-left, and-right}
 use Rattle.layouts.proofs.Sizes.{few}
+
+-- Whether a test passes at every number below n, and what that says of each.
+abbrev every : (ℕ → Bool) → ℕ → Bool
+every f zero = true
+every f (suc n) = f n && every f n
+
+every-at : (f : ℕ → Bool) (n : ℕ) → T (every f n) → (k : ℕ) → k < n → T (f k)
+every-at f zero t k h = absurd (not-suc-le-zero h)
+every-at f (suc n) t k h =
+    ⊎-elim
+    (λ e. rw e (and-left (f n) (every f n) t))
+    (λ l. every-at f n (and-right (f n) (every f n) t) k l)
+    (eq-or-lt-of-le (le-of-suc-le-suc h))
+
+-- 2 plus twice the bit is a heap's size: one test over the 256 heap sizes bytes and the three heaps.
+abbrev right : ℕ → ℕ → Bool
+right heap k = eqb (2 + 2 * bitAt heap k) (heapSize heap k)
+
+abbrev rights : ℕ → Bool
+rights heap = every (right heap) 3
+
+all-right : T (every rights 256)
+unfolding heapSize bitAt
+all-right = tt
+
+pub heap-widths : HeapWidths
+heap-widths heap k h l = eqb→eq _ _ (every-at (right heap) 3 (every-at rights 256 all-right heap h) k l)
 
 two-four : (b : Bool) → TwoOrFour (cond b 4 2)
 two-four true = inr refl

@@ -2,14 +2,12 @@
 use mathlib.Core.Path.{_≡_, refl, ap, _∙_}
 use mathlib.Core.Bool.{Bool, true, false, cond, _||_}
 use mathlib.Core.List.{List, _∷_}
-use Prim.Native.Nat.{ℕ, _/_, _%_, _-_, _^_}
-use native.Mathlib.Omega.{arith}
+use Prim.Native.Nat.{ℕ, _-_, _^_}
 use lib.Dec.{T, leb, eqb, eqb→eq}
 use lib.ListN.{getD}
-use Rattle.numbers.specs.Bits.{bitAt}
 use Rattle.layouts.specs.declared.IndexSizes.{IndexSizes}
 use Rattle.layouts.specs.Kinds.{declSecurity}
-use Rattle.layouts.specs.Columns.{reaches, indexSize, heapSize, hasCustomAttribute}
+use Rattle.layouts.specs.Columns.{reaches, indexSize, hasCustomAttribute}
 use Rattle.layouts.proofs.Reaches.{within, reordered}
 
 -- A size as the code finds it, from a list of the same tables and the number of rows that the tag leaves.
@@ -18,13 +16,6 @@ pub sized : (cs : List ℕ) (bits n : ℕ) (ts us : List ℕ) (x : ℕ) → x �
 unfolding indexSize
 sized cs bits n ts us x e q v w =
     e ∙ ap (λ (b : Bool). cond b 4 2) (reordered cs n ts us v w) ∙ ap (λ (m : ℕ). cond (reaches cs m us) 4 2) (eqb→eq n (2 ^ (16 - bits)) q)
-
--- Bit 0 as the code takes it.
-pub bit-0 : (heap x : ℕ) → x ≡ cond (eqb (heap % 2) 1) 4 2 → x ≡ heapSize heap 0
-unfolding heapSize bitAt
-bit-0 heap x e =
-    let q : heap % 2 ≡ heap / 1 % 2 = omega arith in
-    e ∙ ap (λ (n : ℕ). cond (eqb n 1) 4 2) q
 
 -- DeclSecurity, where it counts, counts beside the others.
 module _ (cs : List ℕ) where

@@ -2,11 +2,16 @@
 use mathlib.Core.Path.{_≡_}
 use mathlib.Core.Bool.{Bool, true, false}
 use mathlib.Core.List.{List, [], _∷_}
-use Prim.Native.Nat.{ℕ, _-_, _^_, _<_}
+use Prim.Native.Nat.{ℕ, _+_, _*_, _-_, _^_, _<_}
 use lib.ListN.{getD}
+use Rattle.numbers.specs.Bits.{bitAt}
 use Rattle.numbers.specs.Fixed.{TwoOrFour}
 use Rattle.layouts.specs.Kinds.{declSecurity}
-use Rattle.layouts.specs.Columns.{Column, indexSize, indexSizes, widthIn, rowSize}
+use Rattle.layouts.specs.Columns.{Column, indexSize, heapSize, indexSizes, widthIn, rowSize}
+
+-- For all 256 heap sizes bytes and each of the three heaps, 2 plus twice the heap's bit is the size of an index into it.
+abbrev pub HeapWidths : Type 0
+HeapWidths = (heap k : ℕ) → heap < 256 → k < 3 → 2 + 2 * bitAt heap k ≡ heapSize heap k
 
 -- Every column takes 2 or 4 bytes, and so does every index.
 abbrev pub ColumnsTwoOrFour : Type 0

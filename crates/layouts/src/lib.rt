@@ -8,8 +8,7 @@ pub mod rows;
 ghost use mathlib.Core.Path.{_≡_};
 ghost use mathlib.Core.Bool.{true, cond};
 ghost use mathlib.Core.List.{[], _∷_};
-ghost use Prim.Native.Nat.{_+_, _<_};
-ghost use lib.Dec.{eqb};
+ghost use Prim.Native.Nat.{_+_, _*_, _<_};
 ghost use Rattle.layouts.specs.Columns.{reaches, indexSize, hasCustomAttribute, indexSizes};
 ghost use Rattle.layouts.specs.Lists.{allBelow};
 
@@ -47,14 +46,12 @@ pub struct IndexSizes {
     pub type_or_method_def: u8,
 }
 
-// An index into a heap, by the heap's bit of the heap sizes.
+// An index into a heap, by the heap's bit of the heap sizes. That this is the standard's size is `HeapWidths` in specs/Facts.antt.
 fn heap_index_size(bit: u8) -> u8
-    ensures { λ r. ⌜ r ≡ cond (eqb bit 1) 4 2 ⌝ }
+    requires { ⌜ bit < 2 ⌝ }
+    ensures { λ r. ⌜ r ≡ 2 + 2 * bit ⌝ }
 {
-    if bit == 1 {
-        return 4;
-    }
-    2
+    2 + 2 * bit
 }
 
 // An index into several tables: 4 bytes once one of them has so many rows.

@@ -1,6 +1,9 @@
+use native.Mathlib.Omega.{arith}
+use lib.Dec.{lit<}
 use Rattle.numbers.specs.Bits.{bitAt}
-use Rattle.layouts.specs.Columns.{heapSize, indexSizes}
-use Rattle.layouts.proofs.Sizes.{made, bit-0, sized}
+use Rattle.layouts.specs.Columns.{indexSizes}
+use Rattle.layouts.proofs.Sizes.{made, sized}
+use Rattle.layouts.proofs.Facts.{heap-widths}
 use borrow.Author.Needs.{needs}
 use Rattle.layouts.proofs.index_sizes.Statement.{statement}
 use Rattle.layouts.proofs.index_sizes.Tie as tie
@@ -123,7 +126,7 @@ coded-index-size-requires-12 : tie.Need-coded-index-size-requires-12
 coded-index-size-requires-12 c κs = search needs
 
 returns : tie.Need-returns
-unfolding indexSizes heapSize bitAt
+unfolding indexSizes bitAt
 returns c =
     let p24 = c in
     let p23 = p24 .before .before in
@@ -150,10 +153,11 @@ returns c =
     let p2 = p3 .before in
     let p1 = p2 .before in
     let p0 = p1 .before in
+    let byte = p0 .before .fits .heap .fits in
     made _
-    (bit-0 (p0 .before .args .heap) _ (p0 .heap-index-size .ensures))
-    (p1 .heap-index-size2 .ensures)
-    (p2 .heap-index-size3 .ensures)
+    (omega (arith, p0 .heap-index-size .ensures, heap-widths _ 0 byte (lit< tt)))
+    (omega (arith, p1 .heap-index-size2 .ensures, heap-widths _ 1 byte (lit< tt)))
+    (omega (arith, p2 .heap-index-size3 .ensures, heap-widths _ 2 byte (lit< tt)))
     (p3 .index-size .ensures)
     (p4 .index-size2 .ensures)
     (p5 .index-size3 .ensures)
