@@ -1,7 +1,7 @@
 -- The columns of each table (ECMA-335 II.22), the bytes that an index takes (II.24.2.6), and the bytes of a row.
 use mathlib.Core.Bool.{Bool, false, cond, _||_}
 use mathlib.Core.List.{List, [], _∷_, _++_}
-use Prim.Native.Nat.{ℕ, _+_, _-_, _^_}
+use Prim.Native.Nat.{ℕ, _+_, _*_, _/_, _-_, _^_}
 use lib.Dec.{leb, eqb}
 use lib.ListN.{getD}
 use Rattle.numbers.specs.Bits.{bitAt}
@@ -224,6 +224,10 @@ widthIn w Implementation = w .implementation
 widthIn w CustomAttributeType = w .«custom_attribute_type»
 widthIn w ResolutionScope = w .«resolution_scope»
 widthIn w TypeOrMethodDef = w .«type_or_method_def»
+
+-- The setting of HasCustomAttribute, MemberRefParent and CustomAttributeType: bits 0, 1 and 2, set where the index has 4 bytes.
+abbrev pub codedSetting : IndexSizes → ℕ
+codedSetting w = w .«has_custom_attribute» / 4 + 2 * (w .«member_ref_parent» / 4) + 4 * (w .«custom_attribute_type» / 4)
 
 -- The sum of what f gives for each column.
 unfoldable pub sumOf : (Column → ℕ) → List Column → ℕ

@@ -6,10 +6,10 @@ mod kinds;
 pub mod rows;
 
 ghost use mathlib.Core.Path.{_≡_};
-ghost use mathlib.Core.Bool.{true, cond};
+ghost use mathlib.Core.Bool.{Bool, true, cond};
 ghost use mathlib.Core.List.{[], _∷_};
-ghost use Prim.Native.Nat.{_+_, _*_, _<_};
-ghost use Rattle.layouts.specs.Columns.{reaches, indexSize, hasCustomAttribute, indexSizes};
+ghost use Prim.Native.Nat.{ℕ, _+_, _*_, _<_};
+ghost use Rattle.layouts.specs.Columns.{reaches, indexSize, hasCustomAttribute, indexSizes, codedSetting};
 ghost use Rattle.layouts.specs.Lists.{allBelow};
 
 // The bytes that an index takes, 2 or 4.
@@ -111,6 +111,28 @@ fn has_custom_attribute_size(counts: &[u32; 64], decl_security: bool) -> u8
     )
 }
 
+fn member_ref_parent_size(counts: &[u32; 64]) -> u8
+    ensures { λ r. ⌜ ((decl : Bool) (heap : ℕ) → r ≡ indexSizes decl heap (now (counts .entry)) .«member_ref_parent») ⌝ }
+{
+    coded_index_size(
+        counts,
+        &[
+            kinds::TYPE_REF,
+            kinds::TYPE_DEF,
+            kinds::METHOD_DEF,
+            kinds::MODULE_REF,
+            kinds::TYPE_SPEC,
+        ],
+        8_192,
+    )
+}
+
+fn custom_attribute_type_size(counts: &[u32; 64]) -> u8
+    ensures { λ r. ⌜ ((decl : Bool) (heap : ℕ) → r ≡ indexSizes decl heap (now (counts .entry)) .«custom_attribute_type») ⌝ }
+{
+    coded_index_size(counts, &[kinds::METHOD_DEF, kinds::MEMBER_REF], 8_192)
+}
+
 // All sizes, by the heap sizes and the rows of each table. A coded index of t tag bits has 4 bytes from 2 ^ (16 - t) rows on.
 pub fn index_sizes(heap: u8, counts: &[u32; 64], decl_security: bool) -> IndexSizes
     ensures { λ r. ⌜ r ≡ indexSizes «decl_security» heap (now (counts .entry)) ⌝ }
@@ -145,17 +167,7 @@ pub fn index_sizes(heap: u8, counts: &[u32; 64], decl_security: bool) -> IndexSi
             &[kinds::TYPE_DEF, kinds::METHOD_DEF, kinds::ASSEMBLY],
             16_384,
         ),
-        member_ref_parent: coded_index_size(
-            counts,
-            &[
-                kinds::TYPE_REF,
-                kinds::TYPE_DEF,
-                kinds::METHOD_DEF,
-                kinds::MODULE_REF,
-                kinds::TYPE_SPEC,
-            ],
-            8_192,
-        ),
+        member_ref_parent: member_ref_parent_size(counts),
         has_semantics: coded_index_size(counts, &[kinds::EVENT, kinds::PROPERTY], 32_768),
         method_def_or_ref: coded_index_size(
             counts,
@@ -168,11 +180,7 @@ pub fn index_sizes(heap: u8, counts: &[u32; 64], decl_security: bool) -> IndexSi
             &[kinds::FILE, kinds::ASSEMBLY_REF, kinds::EXPORTED_TYPE],
             16_384,
         ),
-        custom_attribute_type: coded_index_size(
-            counts,
-            &[kinds::METHOD_DEF, kinds::MEMBER_REF],
-            8_192,
-        ),
+        custom_attribute_type: custom_attribute_type_size(counts),
         resolution_scope: coded_index_size(
             counts,
             &[
@@ -198,4 +206,14 @@ fn sum(a: u8, b: u8, c: u8, d: u8, e: u8, f: u8) -> u32
     ensures { λ r. ⌜ r ≡ a + (b + (c + (d + (e + f)))) ⌝ }
 {
     (a as u32) + (b as u32) + (c as u32) + (d as u32) + (e as u32) + (f as u32)
+}
+
+// The setting of the three coded indices that can have 4 bytes where no table has more than 15,000 rows: a bit for each that has.
+pub fn coded_setting(counts: &[u32; 64], decl_security: bool) -> usize
+    ensures { λ r. ⌜ ((heap : ℕ) → r ≡ codedSetting (indexSizes «decl_security» heap (now (counts .entry)))) ⌝ }
+{
+    let attribute = has_custom_attribute_size(counts, decl_security) / 4;
+    let parent = member_ref_parent_size(counts) / 4;
+    let kind = custom_attribute_type_size(counts) / 4;
+    wide(attribute) as usize + 2 * wide(parent) as usize + 4 * wide(kind) as usize
 }

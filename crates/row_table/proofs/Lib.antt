@@ -1,0 +1,3 @@
+mod Entry
+mod Table
+pub mod Rule
