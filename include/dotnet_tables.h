@@ -141,7 +141,16 @@ typedef struct dn_piece {
  * stream; 64 if there is none. Refusals: 1, 2, 3. */
 dn_reply dn_walk_stop(const uint8_t *tables, size_t tables_len, uint32_t options);
 
-/* The extent of a kind's table. All 0 for a kind that is empty, unknown or not reached, above 63, or where the stream is refused. */
+/* The extent of a kind's table. All 0 for a kind that is empty, unknown or not reached, above 63, or where the stream is refused.
+ *
+ * To copy a stream that is not refused by its extents: a table is fully read where its kind is below the one that dn_walk_stop names and
+ * its rows are not 0. It has the bytes from start up to start + rows * size. All else from the first table to the end of the stream is the
+ * rest, in one piece. So each of these bytes is in exactly one fully read table or in the rest.
+ *
+ * The rest begins where the kind that dn_walk_stop names would begin. If that kind is known (0 to 44), its table is cut, and its start is
+ * where the rest begins: its whole rows lie in the rest, though the extent counts them. In every case, 64 included, the rest begins at the
+ * end of the last fully read table. If there is none, it begins where the first table would: behind the header of 24 bytes and the counts,
+ * 4 bytes for each set bit of the valid mask, and behind 4 bytes more, or as many as are left, if bit 0x40 of the heap sizes is set. */
 dn_extent dn_walk_extent(const uint8_t *tables, size_t tables_len, uint32_t options, uint32_t kind);
 
 /* The string or the blob at an index of its heap. Refusals: 7, also where `which` is neither DN_STRINGS nor DN_BLOBS. */

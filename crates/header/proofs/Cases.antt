@@ -8,9 +8,10 @@ use native.Mathlib.Decide.{decLt}
 use native.Mathlib.Omega.{arith}
 use borrow.Author.Tests.{lt-ltb, le-ltb, ltb-false}
 use lib.Dec.{ltb}
-use lib.ListN.{length, getD, getD-replicate}
+use lib.ListN.{length, getD, getD-replicate, length-replicate, List·getD-eq-default}
 use Rattle.numbers.specs.Bits.{bitAt, onesBelow}
-use Rattle.numbers.proofs.Lists.{table-at}
+use Rattle.numbers.proofs.Lists.{table-at, tabulate-length}
+use Rattle.buffers.specs.declared.Refusal.{Refusal}
 use Rattle.buffers.specs.declared.Refusal.the-variants.{ShortHeader, ShortCounts, TooManyRows}
 use Rattle.header.specs.Stream.{heapSizes, valid, rowCount, rowCounts, countsEnd, tablesStart, overLimit, refusedHeader, opened}
 use Rattle.header.specs.declared.Options.{Options}
@@ -50,30 +51,32 @@ module _ (o : Options) (s : List ℕ) where
 pub end-is : (s : List ℕ) (mask n : ℕ) → mask ≡ valid s → n ≡ onesBelow mask 64 → 24 + 4 * n ≡ countsEnd s
 end-is s mask n e h = ap (λ (x : ℕ). 24 + 4 * x) (h ∙ ap (λ (x : ℕ). onesBelow x 64) e)
 
--- The first table begins within the stream.
-pick-first : (b : Bool) (x y : Header) (n : ℕ) → x .first ≤ n → y .first ≤ n → cond b x y .first ≤ n
-pick-first true x y n p q = p
-pick-first false x y n p q = q
+-- Opening by its two ends: what holds of every refusal, and of a stream whose counts are there and within the limit.
+opened-by : (P : Header → Type 0) (o : Options) (s : List ℕ) → ((why : Refusal) → P (refusedHeader why))
+    → (countsEnd s ≤ length s → overLimit (o .limit) s 64 ≡ false → P (ready s)) → P (opened o s)
+unfolding opened
+opened-by P o s none all = go (ltb (length s) 24) (ltb (length s) (countsEnd s)) (overLimit (o .limit) s 64) refl refl
+  where
+    go : (short cut over : Bool) → ltb (length s) (countsEnd s) ≡ cut → overLimit (o .limit) s 64 ≡ over
+        → P (cond short (refusedHeader ShortHeader) (cond cut (refusedHeader ShortCounts) (cond over (refusedHeader TooManyRows) (ready s))))
+    go true cut over c e = none ShortHeader
+    go false true over c e = none ShortCounts
+    go false false true c e = none TooManyRows
+    go false false false c e = all (ltb-false (length s) (countsEnd s) c) e
 
+-- The first table begins within the stream, and four bytes after the counts at most;
 pub first-within : (o : Options) (s : List ℕ) → opened o s .first ≤ length s
-unfolding opened
-first-within o s =
-    pick-first (ltb (length s) 24) _ _ (length s) zero-le
-    (pick-first (ltb (length s) (countsEnd s)) _ _ (length s) zero-le
-    (pick-first (overLimit (o .limit) s 64) _ _ (length s) zero-le (omega arith)))
+first-within o s = opened-by (λ (h : Header). h .first ≤ length s) o s (λ why. zero-le) (λ l e. omega arith)
 
--- A stream that opens has its first table after the counts.
-opening-first : (o : Options) (s : List ℕ) (short cut over : Bool) → ltb (length s) (countsEnd s) ≡ cut
-    → cond short (refusedHeader ShortHeader) (cond cut (refusedHeader ShortCounts) (cond over (refusedHeader TooManyRows) (ready s))) .answer ≡ Ready
-    → countsEnd s ≤ cond short (refusedHeader ShortHeader) (cond cut (refusedHeader ShortCounts) (cond over (refusedHeader TooManyRows) (ready s))) .first
-opening-first o s true cut over c e = let z : _≡_ {A = ℕ} 0 1 = cc in absurd (omega arith)
-opening-first o s false true over c e = let z : _≡_ {A = ℕ} 0 1 = cc in absurd (omega arith)
-opening-first o s false false true c e = let z : _≡_ {A = ℕ} 0 1 = cc in absurd (omega arith)
-opening-first o s false false false c e = omega (arith, ltb-false (length s) (countsEnd s) c)
+pub first-most : (o : Options) (s : List ℕ) → opened o s .first ≤ countsEnd s + 4
+unfolding bitAt
+first-most o s = opened-by (λ (h : Header). h .first ≤ countsEnd s + 4) o s (λ why. zero-le) (λ l e. omega arith)
 
+-- and that of a stream that opens begins after the counts.
 pub ready-first : (o : Options) (s : List ℕ) → opened o s .answer ≡ Ready → countsEnd s ≤ opened o s .first
-unfolding opened
-ready-first o s e = opening-first o s (ltb (length s) 24) (ltb (length s) (countsEnd s)) (overLimit (o .limit) s 64) refl e
+ready-first o s =
+    opened-by (λ (h : Header). h .answer ≡ Ready → countsEnd s ≤ h .first) o s (λ why r. let z : _≡_ {A = ℕ} 0 1 = cc in absurd (omega arith))
+    (λ l e r. omega arith)
 
 -- No count of an opened stream is over the limit.
 few-below : (limit : ℕ) (s : List ℕ) (n k : ℕ) → overLimit limit s n ≡ false → k < n → rowCount s k ≤ limit
@@ -89,13 +92,19 @@ few-below limit s (suc n) k e h = go (ltb limit (rowCount s n)) refl e (decLt k 
         let same : k ≡ n = omega arith in
         rw same (ltb-false limit (rowCount s n) q)
 
-few-by : (o : Options) (s : List ℕ) (k : ℕ) (short cut over : Bool) → overLimit (o .limit) s 64 ≡ over → k < 64
-    → getD (cond short (refusedHeader ShortHeader) (cond cut (refusedHeader ShortCounts) (cond over (refusedHeader TooManyRows) (ready s))) .counts) k 0 ≤ o .limit
-few-by o s k true cut over e h = rw (getD-replicate {A = ℕ} 64 k 0 0 h) zero-le
-few-by o s k false true over e h = rw (getD-replicate {A = ℕ} 64 k 0 0 h) zero-le
-few-by o s k false false true e h = rw (getD-replicate {A = ℕ} 64 k 0 0 h) zero-le
-few-by o s k false false false e h = rw (table-at (rowCount s) 0 64 k h) (few-below (o .limit) s 64 k e h)
-
 pub few-counted : (o : Options) (s : List ℕ) (k : ℕ) → k < 64 → getD (opened o s .counts) k 0 ≤ o .limit
-unfolding opened
-few-counted o s k h = few-by o s k (ltb (length s) 24) (ltb (length s) (countsEnd s)) (overLimit (o .limit) s 64) refl h
+few-counted o s k h =
+    opened-by (λ (x : Header). getD (x .counts) k 0 ≤ o .limit) o s (λ why. rw (getD-replicate {A = ℕ} 64 k 0 0 h) zero-le)
+    (λ l e. rw (table-at (rowCount s) 0 64 k h) (few-below (o .limit) s 64 k e h))
+
+-- There are 64 counts: no kind past the last has rows, so that no count at all is over the limit.
+counts-many : (o : Options) (s : List ℕ) → length (opened o s .counts) ≡ 64
+counts-many o s =
+    opened-by (λ (h : Header). length (h .counts) ≡ 64) o s (λ why. length-replicate {A = ℕ} 64 0) (λ l e. tabulate-length (rowCount s) 0 64)
+
+pub all-counted : (o : Options) (s : List ℕ) (k : ℕ) → getD (opened o s .counts) k 0 ≤ o .limit
+all-counted o s k = go (decLt k 64)
+  where
+    go : Dec (k < 64) → getD (opened o s .counts) k 0 ≤ o .limit
+    go (yes l) = few-counted o s k l
+    go (no l) = rw (List·getD-eq-default (opened o s .counts) 0 {n = k} (omega (arith, counts-many o s))) zero-le

@@ -1,5 +1,5 @@
 -- Where tables lie: the laws behind `TablesApart`. Assumes nothing.
-use mathlib.Core.Path.{_≡_, refl, sym, ap, _∙_}
+use mathlib.Core.Path.{_≡_, refl, sym, ap, _∙_, subst}
 use mathlib.Core.Bool.{Bool, true, false, cond}
 use mathlib.Core.List.{List}
 use Prim.Native.Nat.{ℕ, zero, suc, _+_, _-_, _*_, _/_, _≤_, _<_, min, zero-le}
@@ -29,7 +29,7 @@ zeros k = go (decLt k 64)
     go (yes l) = getD-replicate 64 k 0 0 l
     go (no l) = List·getD-eq-default (replicate 64 0) 0 {n = k} (omega (arith, length-replicate {A = ℕ} 64 0))
 
-past : (g : ℕ → ℕ) (k : ℕ) → 64 ≤ k → getD (tabulate g 0 64) k 0 ≡ 0
+pub past : (g : ℕ → ℕ) (k : ℕ) → 64 ≤ k → getD (tabulate g 0 64) k 0 ≡ 0
 past g k l = List·getD-eq-default (tabulate g 0 64) 0 {n = k} (omega (arith, tabulate-length g 0 64))
 
 module _ (size : ℕ → ℕ) (counts : List ℕ) (n first : ℕ) where
@@ -39,7 +39,7 @@ module _ (size : ℕ → ℕ) (counts : List ℕ) (n first : ℕ) where
   starts-rise k zero = rw add-zero (le-refl _)
   starts-rise k (suc d) = rw add-suc (omega (arith, starts-rise k d))
 
-  rise : (k m : ℕ) → k ≤ m → startOf size counts n first k ≤ startOf size counts n first m
+  pub rise : (k m : ℕ) → k ≤ m → startOf size counts n first k ≤ startOf size counts n first m
   rise k m l = let e : k + (m - k) ≡ m = omega arith in rw e at (starts-rise k (m - k))
 
   -- A byte of kind k lies between its start and the next kind's, after the first table's start and within the stream.
@@ -50,7 +50,7 @@ module _ (size : ℕ → ℕ) (counts : List ℕ) (n first : ℕ) where
     pub within : p < n
 
   -- The three values of a kind, by whether it is reached and is a table.
-  abbrev seen : Bool → Bool → ℕ → Extent
+  abbrev pub seen : Bool → Bool → ℕ → Extent
   seen a b k =
       record {
         start = cond a (cond b (startOf size counts n first k) 0) 0;
@@ -58,7 +58,7 @@ module _ (size : ℕ → ℕ) (counts : List ℕ) (n first : ℕ) where
         rows = cond a (cond b (wholeRows size counts n first k) 0) 0;
       }
 
-  from-first : (k : ℕ) → first ≤ startOf size counts n first k
+  pub from-first : (k : ℕ) → first ≤ startOf size counts n first k
   unfolding startOf
   from-first k = rise zero k (omega arith)
 
@@ -73,13 +73,23 @@ module _ (size : ℕ → ℕ) (counts : List ℕ) (n first : ℕ) where
       let most = div-mul-le-self room (size k) in
       record { low = i .0; high = omega arith; from = omega (arith, from-first k); within = omega arith }
 
-  abbrev table : ℕ → Extent
+  abbrev pub table : ℕ → Extent
   table k =
       record {
         start = getD (walked size counts n first .starts) k 0;
         size = getD (walked size counts n first .sizes) k 0;
         rows = getD (walked size counts n first .rows) k 0;
       }
+
+  -- What the reply has of a kind is what is seen of it.
+  pub as-seen : (k : ℕ) → k < 64 → table k ≡ seen (leb k (stopKind size counts n first)) (isTable size counts n first k) k
+  unfolding walked ifReached
+  as-seen k l =
+      rw (
+        table-at (ifReached size counts n first (startOf size counts n first)) 0 64 k l,
+        table-at (ifReached size counts n first size) 0 64 k l,
+        table-at (ifReached size counts n first (wholeRows size counts n first)) 0 64 k l,
+      )
 
   lies : (k p : ℕ) → Inside (table k) p → Lies k p
   unfolding walked ifReached
@@ -88,11 +98,7 @@ module _ (size : ℕ → ℕ) (counts : List ℕ) (n first : ℕ) where
       go : Dec (k < 64) → Lies k p
       go (yes l) =
           lies-seen (leb k (stopKind size counts n first)) (isTable size counts n first k) k p
-          (rw (
-            table-at (ifReached size counts n first (startOf size counts n first)) 0 64 k l,
-            table-at (ifReached size counts n first size) 0 64 k l,
-            table-at (ifReached size counts n first (wholeRows size counts n first)) 0 64 k l,
-          ) at i)
+          (subst (λ (e : Extent). Inside e p) (as-seen k l) i)
       go (no l) =
           let a = past (ifReached size counts n first (startOf size counts n first)) k (omega arith) in
           let b = past (ifReached size counts n first size) k (omega arith) in
@@ -148,12 +154,10 @@ module _ (size : ℕ → ℕ) (counts : List ℕ) (n first : ℕ) where
   stands-table : (k : ℕ) → k < 64 → 0 < size k → 0 < table size counts n first k .rows
       → (table size counts n first k .size ≡ size k)
       × (table size counts n first k .start + table size counts n first k .rows * table size counts n first k .size ≤ n)
-  unfolding walked ifReached
   stands-table k l z h =
-      let a = table-at (ifReached size counts n first (startOf size counts n first)) 0 64 k l in
-      let b = table-at (ifReached size counts n first size) 0 64 k l in
-      let c = table-at (ifReached size counts n first (wholeRows size counts n first)) 0 64 k l in
-      rw (a, b, c) (stands-seen (leb k (stopKind size counts n first)) (isTable size counts n first k) k z (rw c at h))
+      let e = as-seen size counts n first k l in
+      subst (λ (x : Extent). (x .size ≡ size k) × (x .start + x .rows * x .size ≤ n)) (sym e)
+      (stands-seen (leb k (stopKind size counts n first)) (isTable size counts n first k) k z (subst (λ (x : Extent). 0 < x .rows) e h))
 
 stands-by : (w : IndexSizes) (h : Header) (n : ℕ) (a : Opened) (k : ℕ) → k < 64 → 0 < rowSize (widthIn w) k → 0 < getD (answered a w h n .rows) k 0
     → (getD (answered a w h n .sizes) k 0 ≡ rowSize (widthIn w) k)

@@ -67,7 +67,7 @@ module _ (size : ℕ → ℕ) (counts : List ℕ) (n first : ℕ) where
   not-passed h = halts 64 0 (omega arith)
 
   -- a kind that was passed is empty, or known and within the stream
-  passed-cases : {C : Type 0} (k : ℕ) → passes size counts n first k ≡ true → (getD counts k 0 ≤ 0 → C) → (0 < getD counts k 0 → k < 45 → startOf size counts n first (k + 1) ≤ n → C) → C
+  pub passed-cases : {C : Type 0} (k : ℕ) → passes size counts n first k ≡ true → (getD counts k 0 ≤ 0 → C) → (0 < getD counts k 0 → k < 45 → startOf size counts n first (k + 1) ≤ n → C) → C
   unfolding passes
   passed-cases k e a b =
       dite (decLt 0 (getD counts k 0))
@@ -77,7 +77,7 @@ module _ (size : ℕ → ℕ) (counts : List ℕ) (n first : ℕ) where
       (λ v. let z : _≡_ {A = ℕ} 0 1 = contra (rw (le-ltb k 45 (omega arith)) at g) in absurd (omega arith)))
       (λ u. a (omega arith))
 
-  halted-cases : {C : Type 0} (k : ℕ) → passes size counts n first k ≡ false → (0 < getD counts k 0 → 45 ≤ k → C) → (0 < getD counts k 0 → k < 45 → n < startOf size counts n first (k + 1) → C) → C
+  pub halted-cases : {C : Type 0} (k : ℕ) → passes size counts n first k ≡ false → (0 < getD counts k 0 → 45 ≤ k → C) → (0 < getD counts k 0 → k < 45 → n < startOf size counts n first (k + 1) → C) → C
   unfolding passes
   halted-cases k e a b =
       dite (decLt 0 (getD counts k 0))
@@ -87,7 +87,7 @@ module _ (size : ℕ → ℕ) (counts : List ℕ) (n first : ℕ) where
       (λ v. a u (omega arith)))
       (λ u. let z : _≡_ {A = ℕ} 0 1 = contra (sym (rw (le-ltb 0 (getD counts k 0) (omega arith)) at e)) in absurd (omega arith))
 
-  next : (k : ℕ) → startOf size counts n first (k + 1) ≡ startOf size counts n first k + getD counts k 0 * size k
+  pub next : (k : ℕ) → startOf size counts n first (k + 1) ≡ startOf size counts n first k + getD counts k 0 * size k
   unfolding startOf
   next k = rw add-one
 

@@ -1,2 +1,3 @@
 pub mod Extents
 pub mod Apart
+pub mod Partition
