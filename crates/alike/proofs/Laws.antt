@@ -6,10 +6,10 @@ use Prim.Native.Nat.{ℕ}
 use lib.ListN.{length}
 use Rattle.buffers.specs.Replies.{Named}
 use Rattle.buffers.specs.declared.Reply.{Reply}
-use Rattle.buffers.proofs.Replies.{reply-same}
 use Rattle.header.specs.declared.Options.{Options}
-use Rattle.tables.specs.Extents.{Walked, walkSays, walkOf}
+use Rattle.tables.specs.Extents.{walkSays, walkOf}
 use Rattle.tables.specs.declared.Extents.{Extents}
+use Rattle.tables.proofs.Outcome.{walk-same}
 use Rattle.record.specs.View.{view}
 use Rattle.record.specs.Rearrangement.{Rearranged}
 use Rattle.record.specs.Answers.{NumberCall, numberAnswer, NameCall, nameAnswer, Numbered}
@@ -26,18 +26,6 @@ module _ {o : Options} {t u : List ℕ} (rearranged : Rearranged o t u) where
   name-alike strings blob call {b} {b′} {d} {d′} {r} {r′} l x y =
       rearrangement-survives o t u strings blob rearranged .1 .names-same call b b′ d d′ r r′ l x y
 
-  -- A walk's reply is known by what it says.
-  says-same : (w x : Extents) → walkSays x ≡ walkSays w → x ≡ w
-  says-same w x e =
-      let answer = reply-same (x .answer) (w .answer) (ap (λ (s : Walked). s .stop) e) in
-      let starts = ap (λ (s : Walked). s .starts) e in
-      let sizes = ap (λ (s : Walked). s .sizes) e in
-      let rows = ap (λ (s : Walked). s .rows) e in
-      let same : _≡_ {A = Extents}
-      (record { answer = x .answer; starts = x .starts; sizes = x .sizes; rows = x .rows })
-      (record { answer = w .answer; starts = w .starts; sizes = w .sizes; rows = w .rows }) = rw (answer, starts, sizes, rows) in
-      same
-
   pub walk-alike : (w x : Extents) → walkSays w ≡ walkOf o t → walkSays x ≡ walkOf o u → x ≡ w
   walk-alike w x e f =
-      says-same w x (f ∙ sym (walk-is o u [] []) ∙ rearrangement-survives o t u [] [] rearranged .1 .walk-same ∙ walk-is o t [] [] ∙ sym e)
+      walk-same x w (f ∙ sym (walk-is o u [] []) ∙ rearrangement-survives o t u [] [] rearranged .1 .walk-same ∙ walk-is o t [] [] ∙ sym e)
