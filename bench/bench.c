@@ -13,7 +13,7 @@
 #include "listing.h"
 
 #define ROOM (1 << 27) /* bytes of a listing */
-#define PIECE 65536 /* bytes of a piece, as many as the listing program takes */
+#define PIECE 65536 /* bytes of a piece */
 #define MEASURED __attribute__((noinline))
 
 /* liboracle.a */

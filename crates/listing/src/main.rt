@@ -7,7 +7,6 @@ use bundle::Bundle;
 use header::Opened;
 use header::Options;
 use lines::Cursor;
-use listing_steps::MOST_STEPS;
 use rows::columns;
 ghost use mathlib.Core.Path.{_≡_};
 ghost use mathlib.Core.List.{List};
@@ -19,7 +18,7 @@ ghost use Rattle.rows.specs.Layout.{Laid, viewIn};
 ghost use Rattle.answers.specs.Known.{Knows};
 
 // Bytes of a piece of the listing.
-const PIECE: usize = 16_384;
+const PIECE: usize = 32_768;
 
 // Words for the layout, and for the rows by key of every input that the program takes; and of one whose tables have at most so many bytes.
 const WORDS: usize = 19_000;
@@ -42,7 +41,7 @@ fn write_refused(why: Refusal) -> bool {
     io::write_all(1, numbers::cut(&space, 0, step.at))
 }
 
-// Writes one piece of the listing, as long as there is room for any line.
+// Writes one piece of the listing, as much as the buffer holds.
 fn write_piece(
     tables: &[u8],
     strings: &[u8],
@@ -59,20 +58,10 @@ fn write_piece(
     ensures { λ r. let v = viewIn (now (tables .entry)) (now (layout .entry)) (now (strings .entry)) (now (blob .entry)) in
         ⌜ Knows v (now (blob .entry)) (r .known) ⌝ }
 {
-    let reached = listing_steps::fill_lines(
-        tables,
-        strings,
-        blob,
-        options,
-        layout,
-        from,
-        known,
-        MOST_STEPS,
-        space,
-    );
-    let step = reached.step;
+    let on = listing_steps::fill_opened(tables, strings, blob, options, layout, from, known, space);
+    let step = on.step;
     let next = step.next;
-    let after = reached.known;
+    let after = on.known;
     let whole = io::write_all(1, numbers::cut(space, 0, step.at));
     Written {
         next,

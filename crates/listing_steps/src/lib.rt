@@ -259,7 +259,8 @@ fn next_line(
     }
 }
 
-// At most so many steps, while there is room for any line. Whoever goes on from there hands on what is known.
+// At most so many steps, while there is room for any line. Whoever goes on from there hands on what is known. The cursor's parts are kept
+// apart: a cursor that is copied is copied with the bytes between them.
 pub fn fill_lines(
     tables: &[u8],
     strings: &[u8],
@@ -278,11 +279,20 @@ pub fn fill_lines(
         ⌜ Reaches v from steps (now (out .entry)) (now (out .exit)) r × Knows
         (viewIn (now (tables .entry)) (now (layout .entry)) (now (strings .entry)) (now (blob .entry))) (now (blob .entry)) (r .known) ⌝ }
 {
-    let mut c = from;
+    let mut place = from.place;
+    let mut class = from.class;
+    let mut method = from.method;
+    let mut item = from.i;
     let mut k = known;
     let mut at = 0;
     let mut left = steps;
     while 0 < left {
+        let c = Cursor {
+            place,
+            class,
+            method,
+            i: item,
+        };
         if is_done(c) {
             return Reached {
                 step: Step { next: c, at },
@@ -308,12 +318,22 @@ pub fn fill_lines(
                 left: 0,
             };
         }
-        c = step.next;
+        let next = step.next;
+        place = next.place;
+        class = next.class;
+        method = next.method;
+        item = next.i;
         at = end;
         left -= 1;
     }
+    let last = Cursor {
+        place,
+        class,
+        method,
+        i: item,
+    };
     Reached {
-        step: Step { next: c, at },
+        step: Step { next: last, at },
         known: k,
         left,
     }
@@ -352,7 +372,6 @@ fn fill_rest(
         }
         let one = fill_lines(tables, strings, blob, options, layout, c, k, 1, &mut space);
         let made = one.step;
-        k = one.known;
         let after = push(out, at, numbers::cut(&space, 0, made.at));
         if out.len() < after {
             return Onward {
@@ -361,6 +380,7 @@ fn fill_rest(
             };
         }
         c = made.next;
+        k = one.known;
         at = after;
         left -= 1;
     }
@@ -399,5 +419,10 @@ pub fn fill_opened(
         MOST_STEPS,
         out,
     );
+    if reached.left == 0 {
+        let step = reached.step;
+        let after = reached.known;
+        return Onward { step, known: after };
+    }
     fill_rest(tables, strings, blob, options, layout, reached, out)
 }

@@ -14,7 +14,7 @@ use Rattle.listing_steps.proofs.is_done.Reads as is-done-reads
 
 abbrev Inv-loop : tie.InvT-loop
 Inv-loop tables strings blob options layout space₀ cursor₀ known₀ turns₀ space cursor known turns =
-    Knows (viewIn tables layout strings blob) blob known × (length space ≡ 16_384)
+    Knows (viewIn tables layout strings blob) blob known × (length space ≡ 32_768)
 
 abbrev μ-loop : tie.MeasureT-loop
 μ-loop tables strings blob options layout space₀ cursor₀ known₀ turns₀ space cursor known turns = turns

@@ -1,3 +1,5 @@
+use native.Mathlib.Omega.{arith}
+use Rattle.listing_steps.proofs.Filling.{going-out}
 use borrow.Author.Needs.{needs}
 use Rattle.listing_steps.proofs.fill_opened.Statement.{statement}
 use Rattle.listing_steps.proofs.fill_opened.Tie as tie
@@ -9,16 +11,26 @@ use Rattle.listing_steps.proofs.fill_rest.Reads as fill-rest-reads
 fill-lines-requires : tie.Need-fill-lines-requires
 fill-lines-requires c κs = search needs
 
-fill-rest-requires : tie.Need-fill-rest-requires
-fill-rest-requires c κs = search needs
-
 same-length : tie.Need-same-length
 same-length c = search needs
 
 returns : tie.Need-returns
 returns c =
+    let reached = c .before .before .before .before .before .before .fill-lines .ensures in
+    (going-out (reached .0 .going) (omega (arith, c .before .before .if1 .taken)), reached .1)
+
+fill-rest-requires : tie.Need-fill-rest-requires
+fill-rest-requires c κs = let start = c .before .before .before .before .before .before .before .before .before .before .before .before .pre in (start .0, (start .1 .0, c .before .before .before .before .before .fill-lines .ensures .1))
+
+same-length-2 : tie.Need-same-length-2
+same-length-2 c = search needs
+
+returns-2 : tie.Need-returns-2
+returns-2 c =
     let rest = c .before .before .fill-rest .ensures in
-    (rest .0 _ _ _ (c .before .before .before .before .before .before .fill-lines .ensures .0), rest .1)
+    (rest .0 _ _ _ (c .before .before .before .before .before .before .before .before .fill-lines .ensures .0), rest .1)
 
 pub fill-opened-spec : {M : Type 1} → statement M
-fill-opened-spec = tie.close (tie.spec fill-lines-requires fill-rest-requires same-length returns)
+fill-opened-spec =
+    tie.close
+    (tie.spec fill-lines-requires same-length returns fill-rest-requires same-length-2 returns-2)

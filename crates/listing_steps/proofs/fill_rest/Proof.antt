@@ -78,14 +78,14 @@ same-length-2 c = search needs
 -- src/lib.rt:349:13
 returns-2 : tie.Need-returns-2 Inv-loop μ-loop
 returns-2 c =
-    let inv = c .before .before .before .before .before .before .before .before .before .before .before .before .before .before .before .loop .inv in
-    let one = c .before .before .before .before .before .before .before .before .before .before .fill-lines .ensures in
-    let undone = sym (c .before .before .before .before .before .before .before .before .before .before .before .before .before .is-done .ensures) ∙ c .before .before .before .before .before .before .before .before .before .before .before .before .if1 .left in
+    let inv = c .before .before .before .before .before .before .before .before .before .before .before .before .before .before .loop .inv in
+    let one = c .before .before .before .before .before .before .before .before .before .fill-lines .ensures in
+    let undone = sym (c .before .before .before .before .before .before .before .before .before .before .before .before .is-done .ensures) ∙ c .before .before .before .before .before .before .before .before .before .before .before .if1 .left in
     let is = cut-is _ _ _ _ (made-inside (one .0) (inv .3) undone) (c .before .before .before .before .cut .ensures) .bytes in (
       λ d n b h.
           let x = inv .0 _ _ (h .going) (h .room) in
-          going-out (moved-full (one .0) (inv .3) (x .0) (x .1 (c .before .before .before .before .before .before .before .before .before .before .before .before .before .before .loop-test .taken)) undone is (c .before .before .before .push .ensures) (c .if2 .taken)) (omega arith),
-      one .1,
+          going-out (moved-full (one .0) (inv .3) (x .0) (x .1 (c .before .before .before .before .before .before .before .before .before .before .before .before .before .loop-test .taken)) undone is (c .before .before .before .push .ensures) (c .if2 .taken)) (omega arith),
+      inv .1,
     )
 
 -- src/lib.rt:356:9
@@ -103,11 +103,11 @@ loop-again c =
     let one = c .before .before .before .before .before .before .before .before .before .before .before .fill-lines .ensures in
     let more = c .before .before .before .before .before .before .before .before .before .before .before .before .before .before .before .loop-test .taken in
     let undone = sym (c .before .before .before .before .before .before .before .before .before .before .before .before .before .before .is-done .ensures) ∙ c .before .before .before .before .before .before .before .before .before .before .before .before .before .if1 .left in
-    let is = cut-is _ _ _ _ (made-inside (one .0) (inv .3) undone) (c .before .before .before .before .before .cut .ensures) .bytes in
-    let pushed = c .before .before .before .before .push .ensures in (
+    let is = cut-is _ _ _ _ (made-inside (one .0) (inv .3) undone) (c .before .before .before .before .before .before .cut .ensures) .bytes in
+    let pushed = c .before .before .before .before .before .push .ensures in (
       λ p b g s.
           let x = inv .0 p b g s in (
-            moved-on (one .0) (inv .3) (x .0) (x .1 more) undone is pushed more (c .before .before .before .before .before .before .before .before .before .before .before .before .before .before .is-done .ensures) (c .before .before .before .before .before .before .before .before .before .before .before .before .before .if1 .left) (c .before .if2 .left),
+            moved-on (one .0) (inv .3) (x .0) (x .1 more) undone is pushed more (c .before .before .before .before .before .before .before .before .before .before .before .before .before .before .is-done .ensures) (c .before .before .before .before .before .before .before .before .before .before .before .before .before .if1 .left) (c .before .before .if2 .left),
             λ h. moved-short (one .0) (inv .3) (x .0) (x .1 more) undone is pushed,
           ),
       one .1,
