@@ -14,7 +14,6 @@
 
 #define COUNT(array) (sizeof(array) / sizeof *(array))
 
-enum { KINDS = 64 };        /* of tables */
 enum { LARGEST = 1 << 16 }; /* bytes of a buffer */
 
 static const uint32_t words[] = {0, 1, 2, 4, 0x80000000, UINT32_MAX}; /* options, and numbers that a question does not have */
@@ -105,13 +104,14 @@ static void check_refused(uint32_t question, int is_name) {
         }
 }
 
-static void check_extents(void) {
+static void check_extents(int by_table) {
     for (uint32_t kind = 0; kind <= KINDS; kind++)
         for (size_t i = 0; i < COUNT(words); i++) {
+            in.options = 0;
+            dn_extent a = extent_of(&in, by_table, kind);
             in.options = words[i];
-            dn_extent a = dn_walk_extent(in.tables.at, in.tables.length, 0, kind);
-            dn_extent b = dn_walk_extent(in.tables.at, in.tables.length, in.options, kind);
-            check(a.start == b.start && a.size == b.size && a.rows == b.rows, "dn_walk_extent %u", kind);
+            dn_extent b = extent_of(&in, by_table, kind);
+            check(a.start == b.start && a.size == b.size && a.rows == b.rows, "dn_walk_extent%s %u", by_table ? "_by_table" : "", kind);
         }
 }
 
@@ -122,7 +122,7 @@ static void check_questions(void) {
         if (call->question) check_refused(call->question, !call->is_name);
     }
     for (size_t i = 0; i < COUNT(no_questions); i++) check_refused(no_questions[i], 0), check_refused(no_questions[i], 1);
-    check_extents();
+    check_extents(0), check_extents(1);
 }
 
 /* ---- the listing */

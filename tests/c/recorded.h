@@ -17,7 +17,7 @@ enum { SHOWN = 10 }; /* lines that are printed, of those that are not as they sh
 static size_t agreed, differed;
 static int wrong; /* whether what is replayed is wrong on purpose */
 
-static bytes read_file(const char *path) {
+static inline bytes read_file(const char *path) {
     FILE *file = fopen(path, "rb");
     bytes all = {NULL, 0};
     if (!file || fseek(file, 0, SEEK_END)) exit((perror(path), 2));
@@ -30,12 +30,12 @@ static bytes read_file(const char *path) {
     return all;
 }
 
-static uint32_t word(const uint8_t *at) {
+static inline uint32_t word(const uint8_t *at) {
     return at[0] | (uint32_t)at[1] << 8 | (uint32_t)at[2] << 16 | (uint32_t)at[3] << 24;
 }
 
 /* Cuts the case at a place of a file into its input and its text, and goes past it; 0 after the last. */
-static int next_case(bytes file, size_t *at, bytes *input, bytes *text) {
+static inline int next_case(bytes file, size_t *at, bytes *input, bytes *text) {
     if (*at + 8 > file.len) return 0;
     *input = (bytes){file.at + *at + 8, word(file.at + *at)};
     *text = (bytes){input->at + input->len, word(file.at + *at + 4)};
@@ -44,7 +44,7 @@ static int next_case(bytes file, size_t *at, bytes *input, bytes *text) {
     return 1;
 }
 
-static int zero_from(const uint8_t *buf, size_t from, size_t len) {
+static inline int zero_from(const uint8_t *buf, size_t from, size_t len) {
     while (from < len)
         if (buf[from++]) return 0;
     return 1;
@@ -64,7 +64,7 @@ static int report(const char *what) {
     return well;
 }
 
-static int replay(const char *path, void (*each)(bytes), const char *what, int is_wrong) {
+static inline int replay(const char *path, void (*each)(bytes), const char *what, int is_wrong) {
     bytes file = read_file(path);
     wrong = is_wrong;
     each(file);

@@ -10,6 +10,7 @@
 #include "recorded.h"
 
 enum { KINDS = 64 }; /* of tables */
+enum { WALKS = 2 };
 
 static bytes tables, strings, blob;
 
@@ -139,28 +140,36 @@ static void replay_calls(bytes file) { replay_lines(file, answer_agrees); }
 
 static void replay_nulls(bytes file) { replay_lines(file, nulls_agree); }
 
-static int extent_is(uint32_t kind, size_t start, size_t size, size_t rows) {
-    dn_extent e = dn_walk_extent(tables.at, tables.len, 0, kind);
+/* A walk: its two calls. There are two, by row sizes that are added up and by the table of them. */
+typedef struct walk {
+    dn_reply (*stop)(const uint8_t *tables, size_t tables_len, uint32_t options);
+    dn_extent (*extent)(const uint8_t *tables, size_t tables_len, uint32_t options, uint32_t kind);
+} walk;
+
+static const walk walks[] = {{dn_walk_stop, dn_walk_extent}, {dn_walk_stop_by_table, dn_walk_extent_by_table}};
+
+static int extent_is(const walk *w, uint32_t kind, size_t start, size_t size, size_t rows) {
+    dn_extent e = w->extent(tables.at, tables.len, 0, kind);
     return e.start == start && e.size == size && e.rows == rows;
 }
 
-static int no_extent_from(uint32_t kind) {
+static int no_extent_from(const walk *w, uint32_t kind) {
     for (; kind <= KINDS; kind++)
-        if (!extent_is(kind, 0, 0, 0)) return 0;
+        if (!extent_is(w, kind, 0, 0, 0)) return 0;
     return 1;
 }
 
 /* A line `KIND START SIZE ROWS` for each kind, then `stop=KIND`; or `refused=NUMBER` alone. */
-static int walk_agrees(const char *text) {
+static int walk_agrees(const walk *w, const char *text) {
     size_t kind, start, size, rows, number;
     int used;
-    dn_reply stop = dn_walk_stop(tables.at, tables.len, 0);
-    if (sscanf(text, "refused=%zu", &number) == 1) return stop.refusal == number && !stop.value && no_extent_from(0);
+    dn_reply stop = w->stop(tables.at, tables.len, 0);
+    if (sscanf(text, "refused=%zu", &number) == 1) return stop.refusal == number && !stop.value && no_extent_from(w, 0);
     for (uint32_t k = 0; k < KINDS; k++, text += used) {
         if (sscanf(text, "%zu %zu %zu %zu %n", &kind, &start, &size, &rows, &used) != 4) return 0;
-        if (kind != k || !extent_is(k, start, size, rows)) return 0;
+        if (kind != k || !extent_is(w, k, start, size, rows)) return 0;
     }
-    return sscanf(text, "stop=%zu", &number) == 1 && stop.value == number && !stop.refusal && no_extent_from(KINDS);
+    return sscanf(text, "stop=%zu", &number) == 1 && stop.value == number && !stop.refusal && no_extent_from(w, KINDS);
 }
 
 /* Inputs that are no bundle, refusal 8, never reach the library. */
@@ -177,7 +186,7 @@ static void replay_walks(bytes file) {
             tables.at = malloc(len + 1);
             if (!tables.at) exit(2);
             memcpy(tables.at, in, tables.len = len);
-            tally(walk_agrees(expected), expected);
+            for (int i = 0; i < WALKS; i++) tally(walk_agrees(&walks[i], expected), expected);
         }
         free(expected);
     }
@@ -195,10 +204,12 @@ static void lookups(void) {
 
 /* What takes no class: by null pointers of length 0 there is nothing. */
 static void nulls(void) {
-    dn_reply stop = dn_walk_stop(NULL, 0, 0);
-    dn_extent extent = dn_walk_extent(NULL, 0, 0, 2);
-    tally(!stop.value && stop.refusal == DN_SHORT_HEADER, "the walk of a null pointer");
-    tally(!extent.start && !extent.size && !extent.rows, "an extent of a null pointer");
+    for (int i = 0; i < WALKS; i++) {
+        dn_reply stop = walks[i].stop(NULL, 0, 0);
+        dn_extent extent = walks[i].extent(NULL, 0, 0, 2);
+        tally(!stop.value && stop.refusal == DN_SHORT_HEADER, "the walk of a null pointer");
+        tally(!extent.start && !extent.size && !extent.rows, "an extent of a null pointer");
+    }
     for (uint32_t which = DN_STRINGS; which <= DN_BLOBS; which++) {
         dn_part part = dn_lookup(NULL, 0, NULL, 0, which, 0);
         tally(!part.start && !part.len && part.refusal == DN_NOT_FOUND, "a heap that is a null pointer");

@@ -5,9 +5,11 @@
 
 #include "dotnet_tables.h"
 
-enum { WALK_STOP, CLASS_COUNT, GENERIC_COUNT, BASE_COUNT, METHOD_COUNT, METHOD_GENERIC_COUNT, PARAM_COUNT, CLASS_FLAGS, METHOD_FLAGS,
-       CLASS_NAME, GENERIC_NAME, BASE_NAME, METHOD_NAME, METHOD_GENERIC_NAME, RETURN_TYPE, PARAM_TYPE, PARAM_NAME, CALLS };
+enum { WALK_STOP, WALK_STOP_BY_TABLE, CLASS_COUNT, GENERIC_COUNT, BASE_COUNT, METHOD_COUNT, METHOD_GENERIC_COUNT, PARAM_COUNT,
+       CLASS_FLAGS, METHOD_FLAGS, CLASS_NAME, GENERIC_NAME, BASE_NAME, METHOD_NAME, METHOD_GENERIC_NAME, RETURN_TYPE, PARAM_TYPE,
+       PARAM_NAME, CALLS };
 
+enum { KINDS = 64 };    /* of tables */
 enum { WORDS = 19000 }; /* lent to a listing, as many as serve every input of 65,536 bytes */
 
 struct bytes { const uint8_t *at; size_t length; };
@@ -37,6 +39,7 @@ struct call {
     }
 
 FORM(walk_stop, TABLES, in->options)
+FORM(walk_stop_by_table, TABLES, in->options)
 FORM(class_count, STREAMS)
 FORM(generic_count, ROWS1)
 FORM(base_count, ROWS1)
@@ -59,6 +62,11 @@ static inline dn_reply ask_question(const struct input *in, uint32_t question, i
     return is_name ? dn_ask_name(STREAMS, question, r[0], r[1], r[2], BUFFER) : dn_ask_number(STREAMS, question, r[0], r[1], r[2]);
 }
 
+/* The extent of a kind's table, by row sizes that are added up or by the table of them. */
+static inline dn_extent extent_of(const struct input *in, int by_table, uint32_t kind) {
+    return by_table ? dn_walk_extent_by_table(TABLES, in->options, kind) : dn_walk_extent(TABLES, in->options, kind);
+}
+
 static inline dn_piece list_piece(const struct input *in, dn_cursor from, struct words work, struct buffer buffer) {
     return dn_listing(STREAMS, from, work.at, work.length, BUFFER);
 }
@@ -67,6 +75,7 @@ static inline dn_piece list_piece(const struct input *in, dn_cursor from, struct
 
 static const struct call calls[CALLS] = {
     [WALK_STOP] = { "walk_stop", 0, 0, { 0 }, 0, ask_walk_stop },
+    [WALK_STOP_BY_TABLE] = { "walk_stop_by_table", 0, 0, { 0 }, 0, ask_walk_stop_by_table },
     CALL(CLASS_COUNT, class_count, 0, 0, 0),
     CALL(GENERIC_COUNT, generic_count, 1, 0, CLASS_COUNT),
     CALL(BASE_COUNT, base_count, 1, 0, CLASS_COUNT),

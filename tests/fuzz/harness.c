@@ -506,15 +506,17 @@ static void check_listing(void) {
 
 /* ---- all of them */
 
-/* The tables adjoin, and none reaches past the stream's end. */
+/* The tables adjoin, and none reaches past the stream's end. Both walks say the same. */
 static void check_walk(size_t refusal) {
     input.options = some_options();
     dn_reply stop = ask(WALK_STOP, (const uint32_t[3]){ 0, 0, 0 }, no_buffer);
     size_t end = 0;
-    if (stop.refusal != refusal || (refusal ? stop.value : stop.value > 64)) report("a walk with another reply");
-    for (uint32_t kind = 0; kind < 64; kind++) {
-        dn_extent table = dn_walk_extent(input.tables.at, input.tables.length, input.options, kind);
-        asked++;
+    if (stop.refusal != refusal || (refusal ? stop.value : stop.value > KINDS)) report("a walk with another reply");
+    if (!same(stop, ask(WALK_STOP_BY_TABLE, (const uint32_t[3]){ 0, 0, 0 }, no_buffer))) report("walks that stop elsewhere");
+    for (uint32_t kind = 0; kind < KINDS; kind++) {
+        dn_extent table = extent_of(&input, 0, kind), twin = extent_of(&input, 1, kind);
+        asked += 2;
+        if (table.start != twin.start || table.size != twin.size || table.rows != twin.rows) report("walks with other extents");
         if (!table.size) {
             if (table.start || table.rows) report("a table without rows that has a place");
             continue;

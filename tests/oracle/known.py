@@ -3,11 +3,11 @@
 from assembly import bundle
 
 
-def header(counts):
-    """A header and counts; heap indices have 2 bytes."""
+def header(counts, heap=0):
+    """A header and counts; heap indices have 2 bytes, unless the heap sizes say something else."""
     valid = sum(1 << kind for kind in counts)
     sizes = b"".join(counts[kind].to_bytes(4, "little") for kind in sorted(counts))
-    return bytes(8) + valid.to_bytes(8, "little") + bytes(8) + sizes
+    return bytes(6) + bytes([heap, 0]) + valid.to_bytes(8, "little") + bytes(8) + sizes
 
 
 def only(tables):

@@ -30,6 +30,13 @@ pub fn walk_with(tables: &[u8], options: Options) -> Extents
     walks::walk_with(tables, options)
 }
 
+// The same by the table of row sizes.
+pub fn walk_by_table(tables: &[u8], options: Options) -> Extents
+    ensures { λ r. ⌜ walkSays r ≡ walkOf options (now (tables .entry)) ⌝ }
+{
+    walks::walk_by_table(tables, options)
+}
+
 // The raw lookup: the very part of the heap that is meant, and 0 in `refusal`; or an empty part of it, and refusal 7.
 pub fn lookup<'a>(
     strings: &'a [u8],

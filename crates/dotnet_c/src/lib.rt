@@ -42,6 +42,22 @@ pub extern "C" fn dn_walk_extent(tables: &[u8], options: u32, kind: u32) -> DnEx
     c_replies::extent_of(dotnet::walk_with(tables, options_of(options)), kind)
 }
 
+// The kind at which the walk is left, by the table of row sizes.
+#[no_mangle]
+pub extern "C" fn dn_walk_stop_by_table(tables: &[u8], options: u32) -> DnReply
+    ensures { λ r. ⌜ r ≡ told (walkOf (optionsOf options) (now (tables .entry)) .stop) ⌝ }
+{
+    c_replies::stop_of(dotnet::walk_by_table(tables, options_of(options)))
+}
+
+// Where the table of a kind begins, by the table of row sizes.
+#[no_mangle]
+pub extern "C" fn dn_walk_extent_by_table(tables: &[u8], options: u32, kind: u32) -> DnExtent
+    ensures { λ r. ⌜ r ≡ toldExtent (walkOf (optionsOf options) (now (tables .entry))) kind ⌝ }
+{
+    c_replies::extent_of(dotnet::walk_by_table(tables, options_of(options)), kind)
+}
+
 // The raw lookup, in the strings heap for 0 and the blob heap for 1: the place of the part that `dotnet::lookup` hands back.
 #[no_mangle]
 pub extern "C" fn dn_lookup(strings: &[u8], blobs: &[u8], which: u32, index: u32) -> DnPart

@@ -1,7 +1,8 @@
 // Replays recorded answers of the Rust from the file `cases`, as tests/oracle/record writes them: for each case the lengths of the
 // input and of the expected text, 4 bytes each, little-endian; the input; the text. Then, in the same way, the file `wrong`, whose texts
-// are wrong on purpose (tests/oracle/wrong_cases). For each file its name is written, then the first ten cases that differ, counted
-// from 0, and how many agreed and how many differed.
+// are wrong on purpose (tests/oracle/wrong_cases). Each file is replayed by both walks: its name and the walk are written, then the first ten
+// cases that differ, counted from 0, and how many agreed and how many differed.
+use extents_text::Sizes;
 ghost use Prim.Native.Nat.{_≤_};
 
 // What became of a case.
@@ -23,14 +24,14 @@ fn read_front(file: i32, buffer: &mut [u8], n: usize) -> bool {
     io::read_full(file, &mut buffer[..n]) == n
 }
 
-fn agrees(input: &[u8], expected: &[u8]) -> bool {
+fn agrees(input: &[u8], sizes: Sizes, expected: &[u8]) -> bool {
     let mut text = [0u8; 8192];
-    let end = extents_text::write_extents(input, &mut text);
+    let end = extents_text::write_extents(input, sizes, &mut text);
     check::same(numbers::cut(&text, 0, end), expected)
 }
 
 // One case, of which the file must hold all bytes.
-fn replay_case(file: i32) -> Outcome {
+fn replay_case(file: i32, sizes: Sizes) -> Outcome {
     let mut lengths = [0u8; 8];
     if !read_front(file, &mut lengths, 8) {
         return Outcome::NoCase;
@@ -45,7 +46,11 @@ fn replay_case(file: i32) -> Outcome {
     if !read_front(file, &mut expected, m) {
         return Outcome::NoCase;
     }
-    if agrees(numbers::cut(&input, 0, n), numbers::cut(&expected, 0, m)) {
+    if agrees(
+        numbers::cut(&input, 0, n),
+        sizes,
+        numbers::cut(&expected, 0, m),
+    ) {
         return Outcome::Agreed;
     }
     Outcome::Differed
@@ -65,12 +70,12 @@ fn write_counts(agreed: u64, differed: u64) {
 }
 
 // Every case of the file. No file has as many as the loop has turns.
-fn replay(file: i32) {
+fn replay(file: i32, sizes: Sizes) {
     let mut agreed: u64 = 0;
     let mut differed: u64 = 0;
     let mut case: u64 = 0;
     while case < 1_000_000_000 {
-        match replay_case(file) {
+        match replay_case(file, sizes) {
             Outcome::Agreed => {
                 agreed += 1;
             }
@@ -89,19 +94,24 @@ fn replay(file: i32) {
     write_counts(agreed, differed);
 }
 
-fn replay_file(path: &[u8]) {
+fn replay_file(path: &[u8], sizes: Sizes, by: &[u8]) {
     let file = os::open_read(path);
     if file < 0 {
         os::fail(path);
         return;
     }
     write(path);
-    write(b":\n");
-    replay(file);
+    write(by);
+    replay(file, sizes);
     libc::close(file);
 }
 
+fn replay_both(path: &[u8]) {
+    replay_file(path, Sizes::Summed, b", by sums:\n");
+    replay_file(path, Sizes::Tabled, b", by table:\n");
+}
+
 fn main() {
-    replay_file(b"cases");
-    replay_file(b"wrong");
+    replay_both(b"cases");
+    replay_both(b"wrong");
 }

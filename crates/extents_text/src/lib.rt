@@ -13,8 +13,15 @@ ghost use lib.ListN.{length};
 ghost use Rattle.buffers.specs.Texts.{q};
 ghost use Rattle.buffers.specs.Writes.{Wrote};
 ghost use Rattle.buffers.specs.Replies.{number, replySays, value, nameBuffer};
-ghost use Rattle.tables.specs.Extents.{walkSays};
+ghost use Rattle.header.specs.Stream.{base};
+ghost use Rattle.tables.specs.Extents.{walkSays, walkOf};
 ghost use Rattle.extents_text.specs.Lines.{field, kindLine, kindLines, keyLine, walkText, extentsText};
+
+// Where a walk has the row sizes from: sums of columns, or the table of row sizes.
+pub enum Sizes {
+    Summed,
+    Tabled,
+}
 
 // A key and a number.
 fn push_line(out: &mut [u8], at: usize, key: &[u8], n: usize) -> usize
@@ -76,24 +83,37 @@ fn push_walk(out: &mut [u8], w: Extents) -> usize
     }
 }
 
+// The walk by one of the two.
+fn walk_by(tables: &[u8], sizes: Sizes) -> Extents
+    ensures { λ r. ⌜ walkSays r ≡ walkOf base (now (tables .entry)) ⌝ }
+{
+    match sizes {
+        Sizes::Summed => walks::walk(tables),
+        Sizes::Tabled => walks::walk_by_table(tables, header::base_options()),
+    }
+}
+
 // Append the text of an input to an empty buffer.
-fn push_extents(input: &[u8], out: &mut [u8]) -> usize
+fn push_extents(input: &[u8], sizes: Sizes, out: &mut [u8]) -> usize
     ensures { λ r. ⌜ Wrote (now (out .entry)) 0 (extentsText (now (input .entry))) (now (out .exit)) r ⌝ }
 {
     match bundle::open_bundle(input) {
-        Bundle::Streams(p, _, _) => push_walk(out, walks::walk(numbers::cut(input, p.at, p.len))),
+        Bundle::Streams(p, _, _) => push_walk(
+            out,
+            walk_by(numbers::cut(input, p.at, p.len), sizes),
+        ),
         Bundle::Malformed => push_refused(out, Refusal::BadInput),
     }
 }
 
 // The text of an input, from the buffer's start, and then zeros; zeros alone where it does not fit. Answers its length, or one more than
-// the buffer's.
-pub fn write_extents(input: &[u8], out: &mut [u8]) -> usize
+// the buffer's. Which of the two walks is asked makes no difference.
+pub fn write_extents(input: &[u8], sizes: Sizes, out: &mut [u8]) -> usize
     ensures { λ r. let text = extentsText (now (input .entry)) in
         let room = length (now (out .entry)) in
         ⌜ (r ≡ min (length text) (room + 1)) × (now (out .exit) ≡ nameBuffer (value text) room) ⌝ }
 {
-    let end = push_extents(input, out);
+    let end = push_extents(input, sizes, out);
     buffers::finish(out, end);
     end
 }

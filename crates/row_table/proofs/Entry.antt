@@ -28,7 +28,7 @@ agrees-is f i (suc n) (x ∷ l) t =
 
 -- An entry of a part of the table.
 abbrev pub inPart : ℕ → ℕ → ℕ
-inPart heap i = entry heap (i % 8) (i / 8)
+inPart coded i = entry (i % 8) coded (i / 8)
 
 -- A number from k on that is not k.
 pub above : {n k : ℕ} → k ≤ n → (n ≡ k → ⊥) → k + 1 ≤ n

@@ -44,12 +44,12 @@ sizesUnder heap coded =
 unfoldable pub entry : ℕ → ℕ → ℕ → ℕ
 entry heap coded kind = rowSize (widthIn (sizesUnder heap coded)) kind
 
--- A part for each setting of the heap bits; in it, for each kind its 8 entries by the coded bits.
+-- A part for each setting of the coded bits; in it, for each kind its 8 entries by the heap bits.
 unfoldable pub rowTable : List (List ℕ)
-rowTable = tabulate (λ heap. tabulate (λ i. entry heap (i % 8) (i / 8)) 0 360) 0 8
+rowTable = tabulate (λ coded. tabulate (λ i. entry (i % 8) coded (i / 8)) 0 360) 0 8
 
 -- The rule: every entry is the sum of its kind's columns.
 abbrev pub TableRule : Type 0
 TableRule =
     (heap coded kind : ℕ) → heap < 8 → coded < 8 → kind < 45
-    → getD (getD rowTable heap []) (8 * kind + coded) 0 ≡ rowSize (widthIn (sizesUnder heap coded)) kind
+    → getD (getD rowTable coded []) (8 * kind + heap) 0 ≡ rowSize (widthIn (sizesUnder heap coded)) kind

@@ -70,9 +70,9 @@ module _ (size : ℕ → ℕ) (counts : List ℕ) (n first : ℕ) where
         rows = tabulate (ifReached wholeRows) 0 64;
       }
 
--- The row size of a kind in a block that has 8 for each, by a setting of the coded indices. Past the last kind it is 0.
+-- The row size of a kind in a block that has 8 for each, by a setting. Past the last kind it is 0.
 abbrev pub inBlock : List ℕ → ℕ → ℕ → ℕ
-inBlock block coded kind = getD block (8 * kind + coded) 0
+inBlock block setting kind = getD block (8 * kind + setting) 0
 
 -- A refused stream has no extents.
 abbrev pub refusedWalk : ℕ → Walked

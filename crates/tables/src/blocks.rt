@@ -8,18 +8,18 @@ ghost use mathlib.Core.Path.{_≡_};
 ghost use Prim.Native.Nat.{ℕ, _≤_, _<_};
 ghost use Rattle.tables.specs.Extents.{walkSays, inBlock, walked};
 
-// The walk over tables whose first begins at a place of a stream of that length, with the row sizes of a block by a setting of the coded
-// indices.
+// The walk over tables whose first begins at a place of a stream of that length, with the row sizes of a block by one of its
+// settings.
 pub fn walk_block(
     len: usize,
     first: usize,
     counts: &[u32; 64],
     block: &[u8; 360],
-    coded: usize,
+    setting: usize,
 ) -> Extents
-    requires { ⌜ (first ≤ len) × (coded < 8) ⌝ }
-    requires { ⌜ ((k : ℕ) → k < 45 → 0 < inBlock (now block) coded k) ⌝ }
-    ensures { λ r. ⌜ walkSays r ≡ walked (inBlock (now (block .entry)) coded) (now (counts .entry)) len first ⌝ }
+    requires { ⌜ (first ≤ len) × (setting < 8) ⌝ }
+    requires { ⌜ ((k : ℕ) → k < 45 → 0 < inBlock (now block) setting k) ⌝ }
+    ensures { λ r. ⌜ walkSays r ≡ walked (inBlock (now (block .entry)) setting) (now (counts .entry)) len first ⌝ }
 {
     let mut starts = [0usize; 64];
     let mut sizes = [0u32; 64];
@@ -35,7 +35,7 @@ pub fn walk_block(
             if 45 <= kind {
                 break kind;
             }
-            let size = byte(block[8 * kind + coded]);
+            let size = byte(block[8 * kind + setting]);
             let whole = whole_rows(len - at, size, n);
             starts[kind] = at;
             sizes[kind] = size;

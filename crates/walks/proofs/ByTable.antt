@@ -89,34 +89,35 @@ module _ (decl : Bool) (heap : ℕ) (cs : List ℕ) (few : (t : ℕ) → getD cs
 pub narrow-sizes : NarrowSizes
 narrow-sizes o s l = sym (narrow (counted o (opened o s)) (opened o s .heap) (opened o s .counts) (λ t. omega (arith, all-counted o s t)))
 
+-- There are eight coded settings.
+pub coded-few : (decl : Bool) (cs : List ℕ) {coded : ℕ} → ((heap : ℕ) → coded ≡ codedSetting (indexSizes decl heap cs)) → coded < 8
+coded-few decl cs setting =
+    let n = quarter (two-or-four decl 0 cs HasCustomAttribute) in
+    let p = quarter (two-or-four decl 0 cs MemberRefParent) in
+    let t = quarter (two-or-four decl 0 cs CustomAttributeType) in
+    omega (arith, setting 0, n .1, p .1, t .1)
+
 -- A block of the table, by the settings of a stream: its row sizes are the stream's.
 module _ (o : Options) (s : List ℕ) {h : Header} (e : h ≡ opened o s) (l : o .limit ≤ oldLimit) {byte heap coded : ℕ} {block : List ℕ}
-    (a : byte ≡ h .heap) (b : heap ≡ byte) (is : block ≡ getD rowTable (heap % 8) [])
+    (a : byte ≡ h .heap) (b : heap ≡ byte) (is : block ≡ getD rowTable coded [])
     (setting : (heap : ℕ) → coded ≡ codedSetting (indexSizes (o .security) heap (h .counts))) where
   few : (t : ℕ) → getD (h .counts) t 0 ≤ oldLimit
   few t = rw e (omega (arith, all-counted o s t))
 
-  pub coded-few : coded < 8
-  coded-few =
-      let n = quarter (two-or-four (o .security) 0 (h .counts) HasCustomAttribute) in
-      let p = quarter (two-or-four (o .security) 0 (h .counts) MemberRefParent) in
-      let t = quarter (two-or-four (o .security) 0 (h .counts) CustomAttributeType) in
-      omega (arith, setting 0, n .1, p .1, t .1)
-
-  sizes-are : inBlock block coded ≡ rowSizeIn o h
+  sizes-are : inBlock block (heap % 8) ≡ rowSizeIn o h
   sizes-are =
       let n : heap ≡ h .heap = b ∙ a in
       let m : heap % 8 < 8 = omega arith in
-      ap (λ (x : List ℕ). inBlock x coded) is
-      ∙ by-table (heap % 8) coded m coded-few
+      ap (λ (x : List ℕ). inBlock x (heap % 8)) is
+      ∙ by-table (heap % 8) coded m (coded-few (o .security) (h .counts) setting)
       ∙ ap (λ (k : ℕ). rowSize (widthIn (sizesUnder (k % 8) coded))) n
       ∙ ap (λ (k : ℕ). rowSize (widthIn (sizesUnder (h .heap % 8) k))) (setting (h .heap))
       ∙ ap (λ (x : IndexSizes). rowSize (widthIn x)) (narrow (o .security) (h .heap) (h .counts) few)
 
-  pub block-some : (k : ℕ) → k < 45 → 0 < inBlock block coded k
+  pub block-some : (k : ℕ) → k < 45 → 0 < inBlock block (heap % 8) k
   block-some k m = omega (arith, ap (λ (f : ℕ → ℕ). f k) sizes-are, size-pos (o .security) (h .heap) (h .counts) k m)
 
-  pub block-walks : (n : ℕ) → walked (inBlock block coded) (h .counts) n (h .first) ≡ walked (rowSizeIn o h) (h .counts) n (h .first)
+  pub block-walks : (n : ℕ) → walked (inBlock block (heap % 8)) (h .counts) n (h .first) ≡ walked (rowSizeIn o h) (h .counts) n (h .first)
   block-walks n = ap (λ (f : ℕ → ℕ). walked f (h .counts) n (h .first)) sizes-are
 
 pub one-reply : OneReply

@@ -42,16 +42,15 @@ pub fn walk_by_table(tables: &[u8], options: Options) -> Extents
     }
     let h = header::read_header(tables, options);
     let answer = h.answer;
-    let counts = h.counts;
     let first = h.first;
     let heap = h.heap;
     let counted = options.security;
     match answer {
         Opened::Refused(why) => tables::refused_extents(why),
         Opened::Ready => {
-            let block = row_table::row_block(wide(byte(heap)) % 8);
-            let coded = layouts::coded_setting(&counts, counted);
-            tables::blocks::walk_block(tables.len(), first, &counts, &block, coded)
+            let block = row_table::row_block(layouts::coded_setting(&h.counts, counted));
+            let bits = wide(byte(heap)) % 8;
+            tables::blocks::walk_block(tables.len(), first, &h.counts, &block, bits)
         }
     }
 }

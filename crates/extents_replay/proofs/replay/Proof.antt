@@ -11,10 +11,10 @@ use Rattle.extents_replay.proofs.write_counts.Reads as write-counts-rea
 use Rattle.extents_replay.proofs.write_differs.Reads as write-differs-reads
 
 abbrev Inv-loop : tie.InvT-loop
-Inv-loop file agreed₀ differed₀ case₀ agreed differed case = (agreed ≤ case) × (differed ≤ case)
+Inv-loop file sizes agreed₀ differed₀ case₀ agreed differed case = (agreed ≤ case) × (differed ≤ case)
 
 abbrev μ-loop : tie.MeasureT-loop
-μ-loop file agreed₀ differed₀ case₀ agreed differed case = 1000000000 - case
+μ-loop file sizes agreed₀ differed₀ case₀ agreed differed case = 1000000000 - case
 
 -- src/main.rt:71:5
 loop-holds : tie.Need-loop-holds Inv-loop μ-loop

@@ -11,7 +11,7 @@ use Rattle.bundle.proofs.open_bundle.Reads as open-bundle-reads
 use Rattle.extents_text.proofs.push_refused.Reads as push-refused-reads
 use Rattle.extents_text.proofs.push_walk.Reads as push-walk-reads
 use Rattle.numbers.proofs.cut.Reads as cut-reads
-use Rattle.walks.proofs.walk.Reads as walk-reads
+use Rattle.extents_text.proofs.walk_by.Reads as walk-by-reads
 
 -- src/lib.rt:80:11
 open-bundle-requires : tie.Need-open-bundle-requires
@@ -26,8 +26,8 @@ cut-requires : tie.Need-cut-requires
 cut-requires c κs = search needs
 
 -- src/lib.rt:81:52
-walk-requires : tie.Need-walk-requires
-walk-requires c κs = search needs
+walk-by-requires : tie.Need-walk-by-requires
+walk-by-requires c κs = search needs
 
 -- src/lib.rt:81:37
 push-walk-requires : tie.Need-push-walk-requires
@@ -50,7 +50,7 @@ returns : tie.Need-returns
 returns c =
     let is = sym (c .before .before .before .before .before .before .before .p .given .1) ∙ c .before .before .before .before .before .before .before .before .before .open-bundle .ensures .1 in
     let bytes = cut-is _ _ _ _ (streams-within _ is .0) (c .before .before .before .before .cut .ensures) .bytes in
-    text-streams _ is bytes (c .before .before .before .walk .ensures) (c .before .before .push-walk .ensures)
+    text-streams _ is bytes (c .before .before .before .walk-by .ensures) (c .before .before .push-walk .ensures)
 
 -- src/lib.rt:77:1
 same-length-2 : tie.Need-same-length-2
@@ -67,7 +67,7 @@ push-extents-spec =
     open-bundle-requires
     enum-known-p
     cut-requires
-    walk-requires
+    walk-by-requires
     push-walk-requires
     enum-told
     push-refused-requires

@@ -20,11 +20,11 @@ is-some : {x r : ℕ} → (r ≡ x) × (r < 256) → 0 < x → 0 < r
 is-some e h = omega (arith, e .0)
 
 abbrev Inv-loop : tie.InvT-loop
-Inv-loop len first counts block coded starts₀ sizes₀ rows₀ at₀ kind₀ starts sizes rows at kind =
-    Walking (inBlock block coded) counts len first starts sizes rows at kind
+Inv-loop len first counts block setting starts₀ sizes₀ rows₀ at₀ kind₀ starts sizes rows at kind =
+    Walking (inBlock block setting) counts len first starts sizes rows at kind
 
 abbrev μ-loop : tie.MeasureT-loop
-μ-loop len first counts block coded starts₀ sizes₀ rows₀ at₀ kind₀ starts sizes rows at kind = 64 - kind
+μ-loop len first counts block setting starts₀ sizes₀ rows₀ at₀ kind₀ starts sizes rows at kind = 64 - kind
 
 -- src/lib.rt:104:9
 loop-holds : tie.Need-loop-holds Inv-loop μ-loop
