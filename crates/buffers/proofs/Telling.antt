@@ -10,9 +10,10 @@ use mathlib.Core.Option.{Option, none, some}
 use Prim.Native.Nat.{ℕ}
 use Rattle.buffers.specs.Texts.{Text}
 use Rattle.buffers.specs.Writes.{Kept, Wrote, Said}
-use Rattle.buffers.specs.Replies.{number, Answer, refused, value, nameOr5, held, Named}
+use Rattle.buffers.specs.Replies.{Answer, refusedBy, value, nameOr5, held, Named}
 use Rattle.buffers.specs.Telling.{ToldIs, name, missing, no-row}
 use Rattle.buffers.specs.declared.Refusal.the-variants.{NoSuchRow, NoName}
+use Rattle.buffers.specs.declared.Reason.the-variants.{Untold}
 use Rattle.buffers.specs.declared.Reply.{Reply}
 use Rattle.buffers.specs.declared.Told.{Told}
 use Rattle.buffers.specs.declared.Told.the-variants.{Name, Missing, NoRow}
@@ -29,10 +30,10 @@ module _ {a : Answer Text} {b b′ : List ℕ} {at : ℕ} where
   pub told-name : {at′ : ℕ} → ToldIs a b at b′ (Name at′) → NameTold a b at b′ at′
   told-name (name t e w) = record { text = t; is = e; wrote = w }
 
-  pub told-missing : ToldIs a b at b′ Missing → (a ≡ refused (number NoName)) × Kept b at b′
+  pub told-missing : ToldIs a b at b′ Missing → (a ≡ refusedBy (NoName Untold)) × Kept b at b′
   told-missing (missing e k) = (e, k)
 
-  pub told-no-row : ToldIs a b at b′ NoRow → (a ≡ refused (number NoSuchRow)) × Kept b at b′
+  pub told-no-row : ToldIs a b at b′ NoRow → (a ≡ refusedBy NoSuchRow) × Kept b at b′
   told-no-row (no-row e k) = (e, k)
 
   pub told-same : {a′ : Answer Text} {r : Told} → a′ ≡ a → ToldIs a b at b′ r → ToldIs a′ b at b′ r
@@ -53,8 +54,8 @@ module _ {a : Answer Text} {b b₁ b₂ : List ℕ} {r : Reply} where
   pub ends-name : {at : ℕ} → ToldIs a b 0 b₁ (Name at) → Named (held b₁ at) b₁ r b₂ → Named a b r b₂
   ends-name (name t e w) n = rw e (named-text w n)
 
-  pub ends-missing : ToldIs a b 0 b₁ Missing → Named (refused (number NoName)) b₁ r b₂ → Named a b r b₂
+  pub ends-missing : ToldIs a b 0 b₁ Missing → Named (refusedBy (NoName Untold)) b₁ r b₂ → Named a b r b₂
   ends-missing (missing e k) n = rw e (named-length (k .long) n)
 
-  pub ends-no-row : ToldIs a b 0 b₁ NoRow → Named (refused (number NoSuchRow)) b₁ r b₂ → Named a b r b₂
+  pub ends-no-row : ToldIs a b 0 b₁ NoRow → Named (refusedBy NoSuchRow) b₁ r b₂ → Named a b r b₂
   ends-no-row (no-row e k) n = rw e (named-length (k .long) n)

@@ -9,7 +9,7 @@ use lib.Dec.{ltb, leb, eqb}
 use lib.ListN.{length, drop}
 use Rattle.numbers.specs.Parts.{part}
 use Rattle.buffers.specs.Texts.{Text, q, decimal}
-use Rattle.buffers.specs.Replies.{number, Answer, refused, value}
+use Rattle.buffers.specs.Replies.{Answer, refusedBy, value}
 use Rattle.buffers.specs.declared.Refusal.the-variants.{BadInput}
 use Rattle.bundle.specs.declared.Part.{Part}
 use Rattle.bundle.specs.declared.Line.{Line}
@@ -92,7 +92,7 @@ bundleSays s (Streams t n b) = value (record {
   strings = part s (n .at) (n .len);
   blob = part s (b .at) (b .len);
 })
-bundleSays s Malformed = refused (number BadInput)
+bundleSays s Malformed = refusedBy BadInput
 
 -- What an input says: the streams that are found in it, or 8.
 abbrev pub inputIn : List ℕ → Answer Inputs

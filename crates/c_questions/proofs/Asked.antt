@@ -4,7 +4,7 @@ use mathlib.Core.List.{List}
 use mathlib.Core.Option.{Option, none, some}
 use Prim.Native.Nat.{ℕ}
 use Rattle.buffers.specs.Texts.{Text}
-use Rattle.buffers.specs.Replies.{number, Answer, refused, Named}
+use Rattle.buffers.specs.Replies.{Answer, refusedBy, Named}
 use Rattle.buffers.specs.declared.Refusal.{Refusal}
 use Rattle.buffers.specs.declared.Reply.{Reply}
 use Rattle.buffers.specs.declared.Reply.the-variants.{No}
@@ -26,9 +26,9 @@ module _ (v : View) where
 module _ (o : Options) (t strings blob : List ℕ) {why : Refusal} (e : why ≡ noQuestion (opened o t .answer)) where
   pub no-number : {asked : Option NumberCall} → none ≡ asked → Numbered (askedNumber asked (view o t strings blob)) (No why)
   unfolding viewOf
-  no-number f = ap (λ (w : Refusal). refused (number w)) e ∙ ap (λ (a : Option NumberCall). askedNumber a (view o t strings blob)) f
+  no-number f = ap (λ (w : Refusal). refusedBy w) e ∙ ap (λ (a : Option NumberCall). askedNumber a (view o t strings blob)) f
 
-  pub no-name : {asked : Option NameCall} {r : Reply} {b b′ : List ℕ} → none ≡ asked → Named (refused (number why)) b r b′
+  pub no-name : {asked : Option NameCall} {r : Reply} {b b′ : List ℕ} → none ≡ asked → Named (refusedBy why) b r b′
       → Named (askedName asked (view o t strings blob)) b r b′
   unfolding viewOf
   no-name f n = rw (← f, ← e) n

@@ -3,7 +3,7 @@ use mathlib.Core.List.{List, [], _∷_}
 use mathlib.Core.Option.{Option, none, some}
 use Prim.Native.Nat.{ℕ}
 use Rattle.buffers.specs.Texts.{Text}
-use Rattle.buffers.specs.Replies.{number, Answer, refused}
+use Rattle.buffers.specs.Replies.{Answer, refusedBy}
 use Rattle.buffers.specs.declared.Refusal.{Refusal}
 use Rattle.buffers.specs.declared.Refusal.the-variants.{NoSuchRow}
 use Rattle.header.specs.Stream.{base}
@@ -50,11 +50,11 @@ noQuestion (Refused why) = why
 noQuestion Ready = NoSuchRow
 
 abbrev pub askedNumber : Option NumberCall → View → Answer ℕ
-askedNumber none v = refused (number (noQuestion (v .header .answer)))
+askedNumber none v = refusedBy (noQuestion (v .header .answer))
 askedNumber (some call) v = numberAnswer call v
 
 abbrev pub askedName : Option NameCall → View → Answer Text
-askedName none v = refused (number (noQuestion (v .header .answer)))
+askedName none v = refusedBy (noQuestion (v .header .answer))
 askedName (some call) v = nameAnswer call v
 
 -- What the code found a question number to mean.

@@ -7,6 +7,7 @@ use lib.Dec.{eqb, ltb}
 use lib.ListN.{length, getD}
 use Rattle.buffers.specs.Texts.{Text}
 use Rattle.buffers.specs.Replies.{number, Answer, refused, value, nameReply, nameBuffer}
+use Rattle.buffers.specs.declared.Reason.the-variants.{Untold}
 use Rattle.buffers.specs.declared.Refusal.the-variants.{NotFound}
 use Rattle.heaps.specs.Lookups.{stringAt, blobAt, partNumber, partStart, partLength}
 use Rattle.heaps.specs.declared.Part.{Part}
@@ -22,7 +23,7 @@ theVersion = 2
 -- An answer: its value and 0, or 0 and the number that says no.
 abbrev pub told : Answer ℕ → DnReply
 told (value n) = record { value = n; refusal = 0 }
-told (refused n) = record { value = 0; refusal = n }
+told (refused w) = record { value = 0; refusal = w .number }
 
 -- The promise of a call for a name, as `Named` is that of the library's: the entire reply and the entire final buffer.
 pub record ToldName (a : Answer Text) (before : List ℕ) (r : DnReply) (after : List ℕ) : Type 0 where
@@ -31,7 +32,7 @@ pub record ToldName (a : Answer Text) (before : List ℕ) (r : DnReply) (after :
 
 -- A lookup that finds nothing.
 abbrev pub noPart : DnPart
-noPart = record { start = 0; len = 0; refusal = number NotFound }
+noPart = record { start = 0; len = 0; refusal = number (NotFound Untold) }
 
 -- The place of a lookup in its heap.
 abbrev pub toldPart : Part → DnPart

@@ -1,5 +1,6 @@
 // The answers of the calls as C takes them: structs of numbers, since no enum crosses to C. A refusal is its number in document 01, and
 // 0 says that there is none; beside a refusal all else is 0.
+use buffers::Reason;
 use buffers::Refusal;
 use buffers::Reply;
 use heaps::Part;
@@ -68,7 +69,7 @@ pub fn no_part() -> DnPart
     DnPart {
         start: 0,
         len: 0,
-        refusal: buffers::refusal_number(Refusal::NotFound) as usize,
+        refusal: buffers::refusal_number(Refusal::NotFound(Reason::Untold)) as usize,
     }
 }
 

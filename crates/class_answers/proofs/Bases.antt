@@ -7,7 +7,7 @@ use native.Mathlib.Omega.{arith}
 use lib.ListN.{length, getElem?}
 use Rattle.buffers.specs.Texts.{Text}
 use Rattle.buffers.specs.Writes.{Said}
-use Rattle.buffers.specs.Replies.{refused, value, number}
+use Rattle.buffers.specs.Replies.{refusedBy, value}
 use Rattle.buffers.specs.Telling.{ToldIs, name, no-row}
 use Rattle.buffers.specs.declared.Told.{Told}
 use Rattle.buffers.specs.declared.Told.the-variants.{Name, NoRow}
@@ -61,7 +61,7 @@ module _ {t l : List ℕ} (laid : Laid t l) (strings blob : List ℕ) (c : ℕ) 
 
   -- A class that is not.
   module _ (h : rowsAt l columns.typeName < c + 2) where
-    isn't : theClass v c ≡ refused (number NoSuchRow)
+    isn't : theClass v c ≡ refusedBy NoSuchRow
     isn't = unlisted laid strings blob c h
 
     pub no-class-bases : Numbered (baseCount v c) (No NoSuchRow)

@@ -9,7 +9,7 @@ use Rattle.numbers.specs.Parts.{part}
 use Rattle.buffers.specs.Texts.{q}
 use Rattle.buffers.specs.Writes.{Wrote}
 use Rattle.buffers.proofs.Writing.{wrote-none, wrote-then}
-use Rattle.buffers.specs.Replies.{number, Answer, refused, value}
+use Rattle.buffers.specs.Replies.{number, Refused, Answer, refused, value}
 use Rattle.buffers.specs.declared.Refusal.the-variants.{BadInput}
 use Rattle.bundle.specs.Input.{bundleOf}
 use Rattle.bundle.specs.declared.Part.{Part}
@@ -33,12 +33,12 @@ pub kinds-all : {b b′ : List ℕ} {at : ℕ} (w : Walked) (n : ℕ) → n ≤ 
 kinds-all {b} {b′} {at} w n h l p = let e : n ≡ 64 = omega arith in subst (λ (k : ℕ). Wrote b 0 (kindLines w k) b′ at) e p
 
 -- The whole text, by the walk's answer and by the input's.
-module _ (w : Walked) {b b₂ : List ℕ} {at′ n : ℕ} {a : Answer ℕ} where
-  pub text-stop : {b₁ : List ℕ} {at : ℕ} → a ≡ value n → Wrote b 0 (kindLines w 64) b₁ at → Wrote b₁ at (keyLine (q "stop=") n) b₂ at′ → Wrote b 0 (walkText w a) b₂ at′
+module _ (w : Walked) {b b₂ : List ℕ} {at′ : ℕ} {a : Answer ℕ} where
+  pub text-stop : {b₁ : List ℕ} {at n : ℕ} → a ≡ value n → Wrote b 0 (kindLines w 64) b₁ at → Wrote b₁ at (keyLine (q "stop=") n) b₂ at′ → Wrote b 0 (walkText w a) b₂ at′
   unfolding walkText
   text-stop e p r = rw e (wrote-then p r)
 
-  pub text-refused : a ≡ refused n → Wrote b 0 (keyLine (q "refused=") n) b₂ at′ → Wrote b 0 (walkText w a) b₂ at′
+  pub text-refused : {why : Refused} → a ≡ refused why → Wrote b 0 (keyLine (q "refused=") (why .number)) b₂ at′ → Wrote b 0 (walkText w a) b₂ at′
   unfolding walkText
   text-refused e p = rw e p
 

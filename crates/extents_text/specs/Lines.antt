@@ -36,12 +36,12 @@ keyLine key n = key ++ (decimal n ++ lineEnd)
 -- A walk's text, by where it was left or why it was refused.
 unfoldable pub walkText : Walked → Answer ℕ → Text
 walkText w (value stop) = kindLines w 64 ++ keyLine (q "stop=") stop
-walkText w (refused n) = keyLine (q "refused=") n
+walkText w (refused why) = keyLine (q "refused=") (why .number)
 
 -- An input's text, by its streams or why it was refused.
 unfoldable pub inputText : Answer Inputs → Text
 inputText (value i) = let w = walkOf base (i .tables) in walkText w (w .stop)
-inputText (refused n) = keyLine (q "refused=") n
+inputText (refused why) = keyLine (q "refused=") (why .number)
 
 abbrev pub extentsText : List ℕ → Text
 extentsText s = inputText (bundleSays s (bundleOf s))

@@ -13,9 +13,9 @@ use Rattle.numbers.specs.Reading.{Res, someAt, noneAt}
 use Rattle.numbers.specs.Compressed.{uint}
 use Rattle.numbers.specs.Parts.{part}
 use Rattle.numbers.proofs.Pick.{pick-lt, pick-le, pick-eq}
+use Rattle.buffers.specs.declared.Reason.{Reason}
+use Rattle.buffers.specs.declared.Reason.the-variants.{Untold, NullIndex, PastEnd, NoZero}
 use Rattle.heaps.specs.Lookups.{before, stringAt, bytesAt, blobAt, string, Inside}
-use Rattle.heaps.specs.declared.Absence.{Absence}
-use Rattle.heaps.specs.declared.Absence.the-variants.{NullIndex, PastEnd, NoZero, NoBlob}
 use Rattle.heaps.specs.declared.Part.{Part}
 use Rattle.heaps.specs.declared.Part.the-variants.{Found, Absent}
 
@@ -67,7 +67,7 @@ module _ (s : List ℕ) (i : ℕ) where
 
 -- And through a blob's, from what its length was read as.
 module _ (s : List ℕ) (i : ℕ) where
-  pub blob-none : {n : ℕ} → noneAt n ≡ uint s i → Absent NoBlob ≡ blobAt s i
+  pub blob-none : {n : ℕ} → noneAt n ≡ uint s i → Absent Untold ≡ blobAt s i
   unfolding blobAt bytesAt
   blob-none e = rw (← e)
 
@@ -75,7 +75,7 @@ module _ (s : List ℕ) (i : ℕ) where
   unfolding blobAt bytesAt
   blob-found e h = rw (← e, le-leb _ _ h)
 
-  pub blob-cut : {n l : ℕ} → someAt l n ≡ uint s i → length s < n + l → Absent NoBlob ≡ blobAt s i
+  pub blob-cut : {n l : ℕ} → someAt l n ≡ uint s i → length s < n + l → Absent Untold ≡ blobAt s i
   unfolding blobAt bytesAt
   blob-cut e h = rw (← e, lt-leb _ _ h)
 
@@ -108,6 +108,6 @@ pub string-some : (s : List ℕ) (i : ℕ) {start n : ℕ} → Found start n ≡
 unfolding string
 string-some s i e = rw (← e)
 
-pub string-none : (s : List ℕ) (i : ℕ) {why : Absence} → Absent why ≡ stringAt s i → string s i ≡ none
+pub string-none : (s : List ℕ) (i : ℕ) {why : Reason} → Absent why ≡ stringAt s i → string s i ≡ none
 unfolding string
 string-none s i e = rw (← e)

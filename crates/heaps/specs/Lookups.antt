@@ -11,11 +11,10 @@ use Rattle.numbers.specs.Compressed.{uint}
 use Rattle.numbers.specs.Parts.{part, PartOf}
 use Rattle.buffers.specs.Texts.{Text}
 use Rattle.buffers.specs.Replies.{number}
+use Rattle.buffers.specs.declared.Reason.the-variants.{Untold, NullIndex, PastEnd, NoZero}
 use Rattle.buffers.specs.declared.Refusal.the-variants.{NotFound}
 use Rattle.heaps.specs.declared.Heap.{Heap}
 use Rattle.heaps.specs.declared.Heap.the-variants.{Strings, Blobs}
-use Rattle.heaps.specs.declared.Absence.{Absence}
-use Rattle.heaps.specs.declared.Absence.the-variants.{NullIndex, PastEnd, NoZero, NoBlob}
 use Rattle.heaps.specs.declared.Part.{Part}
 use Rattle.heaps.specs.declared.Part.the-variants.{Found, Absent}
 
@@ -34,8 +33,8 @@ stringAt s i =
 
 -- So many bytes from a position on, where the heap has them.
 unfoldable pub bytesAt : List ℕ → Option ℕ → ℕ → Part
-bytesAt s none at = Absent NoBlob
-bytesAt s (some n) at = cond (leb (at + n) (length s)) (Found at n) (Absent NoBlob)
+bytesAt s none at = Absent Untold
+bytesAt s (some n) at = cond (leb (at + n) (length s)) (Found at n) (Absent Untold)
 
 -- The blob at an index of the blob heap (`get_blob`): a compressed length, then that many bytes. Index 0 is like any other.
 unfoldable pub blobAt : List ℕ → ℕ → Part
@@ -56,7 +55,7 @@ blob s i = bytesOf s (blobAt s i)
 -- how long it is. Document 01 leaves the part beside a refusal free: it is the empty part at the start of the heap that was meant.
 abbrev pub partNumber : Part → ℕ
 partNumber (Found start n) = 0
-partNumber (Absent why) = number NotFound
+partNumber (Absent why) = number (NotFound why)
 
 abbrev pub partStart : Part → ℕ
 partStart (Found start n) = start

@@ -1,5 +1,6 @@
 // Lookups in the strings heap and the blob heap (ECMA-335 II.24.2.3, II.24.2.4): as positions, for the layers above, and as the very
 // part of the heap, for the library's users.
+use buffers::Reason;
 use buffers::Refusal;
 use numbers::Uint;
 ghost use mathlib.Core.Path.{_≡_};
@@ -13,18 +14,10 @@ pub enum Heap {
     Blobs,
 }
 
-// Why a lookup finds nothing. Replies do not show it: each is refusal 7.
-pub enum Absence {
-    NullIndex,
-    PastEnd,
-    NoZero,
-    NoBlob,
-}
-
-// Where in its heap the bytes of a lookup are.
+// Where in its heap the bytes of a lookup are, or why there are none. Replies do not show the reason: each is refusal 7.
 pub enum Part {
     Found { start: usize, len: usize },
-    Absent(Absence),
+    Absent(Reason),
 }
 
 // The position of the first x at or after another, or the end. It looks at four bytes a turn, while there are four.
@@ -71,14 +64,14 @@ pub fn get_string(strings: &[u8], index: usize) -> Part
     ensures { λ r. ⌜ r ≡ stringAt (now (strings .entry)) index ⌝ }
 {
     if index == 0 {
-        return Part::Absent(Absence::NullIndex);
+        return Part::Absent(Reason::NullIndex);
     }
     if strings.len() <= index {
-        return Part::Absent(Absence::PastEnd);
+        return Part::Absent(Reason::PastEnd);
     }
     let end = find_byte(strings, index, 0);
     if strings.len() <= end {
-        return Part::Absent(Absence::NoZero);
+        return Part::Absent(Reason::NoZero);
     }
     Part::Found {
         start: index,
@@ -93,11 +86,11 @@ pub fn get_blob(blobs: &[u8], index: usize) -> Part
         Uint::Number(n, start) => {
             let len = n as usize;
             if blobs.len() < start + len {
-                return Part::Absent(Absence::NoBlob);
+                return Part::Absent(Reason::Untold);
             }
             Part::Found { start, len }
         }
-        Uint::NoNumber(_) => Part::Absent(Absence::NoBlob),
+        Uint::NoNumber(_) => Part::Absent(Reason::Untold),
     }
 }
 
@@ -111,8 +104,8 @@ fn hand<'a>(s: &'a [u8], p: Part, refusal: &mut u8) -> &'a [u8]
             *refusal = 0;
             numbers::cut(s, start, len)
         }
-        Part::Absent(_) => {
-            *refusal = buffers::refusal_number(Refusal::NotFound);
+        Part::Absent(why) => {
+            *refusal = buffers::refusal_number(Refusal::NotFound(why));
             numbers::cut(s, 0, 0)
         }
     }

@@ -13,8 +13,9 @@ use borrow.Author.Tests.{le-leb, lt-leb}
 use lib.ListN.{length}
 use Rattle.buffers.specs.Texts.{Text, q}
 use Rattle.buffers.specs.Writes.{Wrote, Kept}
-use Rattle.buffers.specs.Replies.{number, Answer, refused, value}
+use Rattle.buffers.specs.Replies.{Answer, refusedBy, value}
 use Rattle.buffers.specs.declared.Refusal.the-variants.{NoSuchRow, NoName}
+use Rattle.buffers.specs.declared.Reason.the-variants.{Untold}
 use Rattle.buffers.proofs.Writing.{wrote-then, wrote-kept, kept-wrote, wrote-anew}
 use Rattle.lines.specs.Lines.{longest, line, shown, missingLine, nameLine, hasLine}
 
@@ -54,12 +55,12 @@ module _ (key : Text) {a : Answer Text} {o o′ : List ℕ} {at at′ : ℕ} whe
       → Wrote o at (nameLine key a) o′ at′ × (true ≡ hasLine a)
   line-of-name is w = (rw is w, rw is)
 
-  pub line-of-missing : a ≡ refused (number NoName) → Wrote o at (line key []) o′ at′
+  pub line-of-missing : a ≡ refusedBy (NoName Untold) → Wrote o at (line key []) o′ at′
       → Wrote o at (nameLine key a) o′ at′ × (true ≡ hasLine a)
   unfolding missingLine
   line-of-missing is w = (rw is w, rw is)
 
-  pub line-of-none : a ≡ refused (number NoSuchRow) → {o₁ o₂ : List ℕ} {start : ℕ} → Wrote o at key o₁ start → Kept o₁ start o₂
+  pub line-of-none : a ≡ refusedBy NoSuchRow → {o₁ o₂ : List ℕ} {start : ℕ} → Wrote o at key o₁ start → Kept o₁ start o₂
       → Wrote o₂ at [] o′ at′ → Wrote o at (nameLine key a) o′ at′ × (false ≡ hasLine a)
   unfolding missingLine
   line-of-none is k kept w = (rw is (wrote-anew (wrote-kept k kept) w), rw is)

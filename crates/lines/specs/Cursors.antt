@@ -32,11 +32,11 @@ nextNumber n = min (n + 1) 0xFFFF_FFFF
 -- The first line: where the walk was left, or why the streams are refused; and where it goes on.
 abbrev pub stopLine : Answer ℕ → Text
 stopLine (value stop) = numberLine (q "stop=") stop
-stopLine (refused n) = refusedLine n
+stopLine (refused w) = refusedLine (w .number)
 
 abbrev pub afterStop : Answer ℕ → Cursor
 afterStop (value stop) = cursor Classes 0 0 0
-afterStop (refused n) = done
+afterStop (refused w) = done
 
 -- The line at a place of class c, method m and item i.
 abbrev pub placeLine : View → Place → ℕ → ℕ → ℕ → Text

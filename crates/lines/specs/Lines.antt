@@ -7,6 +7,7 @@ use lib.Dec.{eqb, leb}
 use lib.ListN.{length}
 use Rattle.buffers.specs.Texts.{Text, q, decimal}
 use Rattle.buffers.specs.Replies.{number, Answer, refused, value}
+use Rattle.buffers.specs.declared.Reason.the-variants.{Untold}
 use Rattle.buffers.specs.declared.Refusal.the-variants.{NoName, BufferTooSmall}
 
 unfoldable pub line : Text → Text → Text
@@ -42,18 +43,18 @@ refusedLine n = numberLine (q "refused=") n
 -- The line of a number by its answer: none where there is no such number.
 abbrev pub answerLine : Text → Answer ℕ → Text
 answerLine key (value n) = numberLine key n
-answerLine key (refused n) = []
+answerLine key (refused w) = []
 
 -- The line of a name by its answer. 5 says that the name is missing, and 6 that it is too long. Any other number says that there is no
 -- such row, and so no line.
 unfoldable pub missingLine : Text → ℕ → Text
-missingLine key n = cond (eqb n (number NoName)) (line key []) (cond (eqb n (number BufferTooSmall)) (line key (q "!")) [])
+missingLine key n = cond (eqb n (number (NoName Untold))) (line key []) (cond (eqb n (number BufferTooSmall)) (line key (q "!")) [])
 
 abbrev pub nameLine : Text → Answer Text → Text
 nameLine key (value t) = line key (shown t)
-nameLine key (refused n) = missingLine key n
+nameLine key (refused w) = missingLine key (w .number)
 
 -- Whether a name's answer has a line.
 abbrev pub hasLine : {A : Type 0} → Answer A → Bool
 hasLine (value a) = true
-hasLine (refused n) = eqb n (number NoName) || eqb n (number BufferTooSmall)
+hasLine (refused w) = eqb (w .number) (number (NoName Untold)) || eqb (w .number) (number BufferTooSmall)

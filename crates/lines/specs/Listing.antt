@@ -43,7 +43,7 @@ recordLines stop l = numberLine (q "stop=") stop ++ (numberLine (q "classes=") (
 -- A refusal is the line `refused=` and its number, and nothing else.
 abbrev pub orRefused : Answer Text → Text
 orRefused (value t) = t
-orRefused (refused n) = refusedLine n
+orRefused (refused w) = refusedLine (w .number)
 
 -- The listing of a view, and of a program's whole input.
 unfoldable pub listing : View → Text

@@ -57,7 +57,7 @@ pieceOf v room c = pieceFrom v room mostSteps [] c
 -- A piece of the listing of a program's whole input: of a malformed one, the refusal.
 abbrev pub answerPiece : Answer Inputs → ℕ → Cursor → Piece
 answerPiece (value i) room c = pieceOf (view base (i .tables) (i .strings) (i .blob)) room c
-answerPiece (refused n) room c = record { text = refusedLine n; next = done }
+answerPiece (refused w) room c = record { text = refusedLine (w .number); next = done }
 
 unfoldable pub inputPiece : List ℕ → ℕ → Cursor → Piece
 inputPiece s room c = answerPiece (bundleSays s (bundleOf s)) room c

@@ -10,7 +10,7 @@ use types.Run.{OneOf, miss}
 use lib.Dec.{ltb}
 use lib.ListN.{length}
 use Rattle.buffers.specs.Texts.{Text}
-use Rattle.buffers.specs.Replies.{number, refused}
+use Rattle.buffers.specs.Replies.{number, refusedBy}
 use Rattle.buffers.specs.declared.Refusal.{Refusal}
 use Rattle.buffers.specs.declared.Refusal.the-variants.{ShortHeader, ShortCounts, TooManyRows}
 use Rattle.buffers.proofs.Writing.{wrote-none}
@@ -74,7 +74,7 @@ module _ (o : Options) (t strings blob : List ℕ) {why : Refusal} (e : opened o
       let low = few o t e in
       rw (opening-first v why e .1 call, ne-eqb (number why) 5 (λ z. omega arith), ne-eqb (number why) 6 (λ z. omega arith))
 
-  stop-is : walkAnswer v .stop ≡ refused (number why)
+  stop-is : walkAnswer v .stop ≡ refusedBy why
   unfolding viewOf walkBy
   stop-is = rw e
 

@@ -6,7 +6,7 @@ use native.Mathlib.Omega.{arith}
 use borrow.Author.Tests.{lt-leb}
 use lib.ListN.{length, length-append}
 use Rattle.numbers.proofs.Pick.{by-lt}
-use Rattle.buffers.specs.Replies.{Answer, refused, value, number}
+use Rattle.buffers.specs.Replies.{Answer, refusedBy, value}
 use Rattle.buffers.specs.declared.Refusal.the-variants.{BadInput}
 use Rattle.bundle.specs.Input.{Inputs, bundleOf, bundleSays, inputOf}
 use Rattle.bundle.proofs.Made.{opens}
@@ -27,7 +27,7 @@ pieces-alike o t u strings blob r room c =
     rearrangement-survives o t u strings blob r .1 .all-else-same (λ v. pieceOf v room c)
 
 -- An input of more than 65,536 bytes is malformed.
-too-long : (s : List ℕ) → 65536 < length s → bundleSays s (bundleOf s) ≡ refused (number BadInput)
+too-long : (s : List ℕ) → 65536 < length s → bundleSays s (bundleOf s) ≡ refusedBy BadInput
 unfolding bundleOf
 too-long s h = rw (lt-leb _ _ h) refl
 

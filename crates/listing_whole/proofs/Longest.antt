@@ -13,6 +13,7 @@ use Rattle.numbers.proofs.Fixed.{le-fits}
 use Rattle.numbers.proofs.Pick.{pick, pick-lt, pick-le}
 use Rattle.buffers.specs.Texts.{Text, q, digits, decimal}
 use Rattle.buffers.specs.Replies.{number, Answer, refused, value}
+use Rattle.buffers.specs.declared.Reason.the-variants.{Untold}
 use Rattle.buffers.specs.declared.Refusal.{Refusal}
 use Rattle.buffers.specs.declared.Refusal.the-variants.{ShortHeader, ShortCounts, TooManyRows, NoSuchRow, NoName, BufferTooSmall, NotFound, BadInput, BadRoot, NoTables, TooManySteps, Disorder, NestedTwice, StoppedEarly}
 use Rattle.header.specs.Stream.{base, opened}
@@ -65,9 +66,9 @@ module _ (key : Text) (short : length key ≤ 9) where
   name-fits : (a : Answer Text) → Fits (nameLine key a)
   unfolding shown missingLine
   name-fits (value t) = line-fits (shown t) (pick-le (λ (x : Text). length x ≤ longest) (length t) longest (λ h. h) (λ _. omega arith))
-  name-fits (refused n) =
-      pick Fits (eqb n (number NoName)) (λ _. line-fits [] (omega arith))
-      (λ _. pick Fits (eqb n (number BufferTooSmall)) (λ _. line-fits (q "!") (omega arith)) (λ _. omega arith))
+  name-fits (refused w) =
+      pick Fits (eqb (w .number) (number (NoName Untold))) (λ _. line-fits [] (omega arith))
+      (λ _. pick Fits (eqb (w .number) (number BufferTooSmall)) (λ _. line-fits (q "!") (omega arith)) (λ _. omega arith))
 
   number-fits : (n : ℕ) → Narrow n → Fits (numberLine key n)
   number-fits n h = line-fits (decimal n) (omega (arith, decimal-few n h))
@@ -79,9 +80,9 @@ refusal-narrow ShortHeader = omega arith
 refusal-narrow ShortCounts = omega arith
 refusal-narrow TooManyRows = omega arith
 refusal-narrow NoSuchRow = omega arith
-refusal-narrow NoName = omega arith
+refusal-narrow (NoName why) = omega arith
 refusal-narrow BufferTooSmall = omega arith
-refusal-narrow NotFound = omega arith
+refusal-narrow (NotFound why) = omega arith
 refusal-narrow BadInput = omega arith
 refusal-narrow BadRoot = omega arith
 refusal-narrow NoTables = omega arith
@@ -109,16 +110,16 @@ stop-fits Ready w h n = number-fits (q "stop=") (omega arith) _ (stop-narrow _ _
 -- ---- The answer of a call, if it has a value
 
 abbrev Each : {A : Type 0} → (A → Type 0) → Answer A → Type 0
-Each P (refused n) = Unit {0}
+Each P (refused w) = Unit {0}
 Each P (value a) = P a
 
 any : {A : Type 0} (a : Answer A) → Each (λ _. Unit {0}) a
-any (refused n) = tt
+any (refused w) = tt
 any (value a) = tt
 
 each-then : {A B : Type 0} (P : A → Type 0) (Q : B → Type 0) (a : Answer A) (f : A → Answer B) → Each P a → ((x : A) → P x → Each Q (f x))
     → Each Q (a ⟫ f)
-each-then P Q (refused n) f h k = tt
+each-then P Q (refused w) f h k = tt
 each-then P Q (value a) f h k = k a h
 
 each-item : {A : Type 0} (P : A → Type 0) (l : List A) → ((i : ℕ) (a : A) → getElem? l i ≡ some a → P a) → (i : ℕ) → Each P (item l i)
@@ -129,7 +130,7 @@ each-item {A} P l h i = by-item (getElem? l i) refl
     by-item (some a) e = h i a e
 
 answer-fits : (key : Text) → length key ≤ 9 → (a : Answer ℕ) → Each Narrow a → Fits (answerLine key a)
-answer-fits key h (refused n) k = omega arith
+answer-fits key h (refused w) k = omega arith
 answer-fits key h (value n) k = number-fits key h n k
 
 -- ---- Parts of a list of bytes

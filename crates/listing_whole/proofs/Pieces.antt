@@ -10,7 +10,7 @@ use lib.Dec.{leb}
 use lib.ListN.{length}
 use Rattle.numbers.proofs.Pick.{pick, by-lt}
 use Rattle.buffers.specs.Texts.{Text}
-use Rattle.buffers.specs.Replies.{Answer, refused, value, number}
+use Rattle.buffers.specs.Replies.{number, Refused, refusalSays, Answer, refused, value}
 use Rattle.buffers.specs.declared.Refusal.the-variants.{BadInput}
 use Rattle.bundle.specs.Input.{Inputs, bundleOf, bundleSays}
 use Rattle.bundle.specs.declared.Bundle.{Bundle}
@@ -170,26 +170,26 @@ long-line-stays v room c h = is-full v room [] c mostSteps h
 
 -- ---- A program's input: the streams in it, or the refusal of a malformed one, which is one piece
 
-module _ (n room : ℕ) where
+module _ (w : Refused) (room : ℕ) where
   abbrev refusal : Cursor → Piece
-  refusal = answerPiece (refused n) room
+  refusal = answerPiece (refused w) room
 
   none-after : (m : ℕ) → written refusal m done ≡ record { text = []; next = done }
   unfolding written
   none-after zero = refl
   none-after (suc m) = refl
 
-  refused-once : (m : ℕ) → 0 < m → written refusal m first ≡ record { text = refusedLine n; next = done }
+  refused-once : (m : ℕ) → 0 < m → written refusal m first ≡ record { text = refusedLine (w .number); next = done }
   unfolding written
   refused-once zero h = absurd (omega arith)
-  refused-once (suc m) h = rw (none-after m, append-nil (refusedLine n))
+  refused-once (suc m) h = rw (none-after m, append-nil (refusedLine (w .number)))
 
-  refused-begins : (m : ℕ) → Begun (refusedLine n) (written refusal m first)
+  refused-begins : (m : ℕ) → Begun (refusedLine (w .number)) (written refusal m first)
   unfolding written
-  refused-begins zero = record { rest = refusedLine n; is = refl; all = λ e. let z : _≡_ {A = Bool} false true = e in cc }
+  refused-begins zero = record { rest = refusedLine (w .number); is = refl; all = λ e. let z : _≡_ {A = Bool} false true = e in cc }
   refused-begins (suc m) =
-      subst (Begun (refusedLine n)) (sym (refused-once (suc m) (omega arith)))
-      (record { rest = []; is = append-nil (refusedLine n); all = λ _. refl })
+      subst (Begun (refusedLine (w .number))) (sym (refused-once (suc m) (omega arith)))
+      (record { rest = []; is = append-nil (refusedLine (w .number)); all = λ _. refl })
 
 abbrev viewIn : Inputs → View
 viewIn i = view base (i .tables) (i .strings) (i .blob)
@@ -199,15 +199,15 @@ few-there i = few-in (i .tables) (i .strings) (i .blob)
 
 begins-by : (a : Answer Inputs) (room m : ℕ)
     → Begun (orRefused (a ⟫ λ i. value (listing (viewIn i)))) (written (answerPiece a room) m first)
-begins-by (refused n) room m = refused-begins n room m
+begins-by (refused w) room m = refused-begins w room m
 begins-by (value i) room m = view-begins (viewIn i) room (few-there i) m
 
 -- Where the program's last piece ends.
 abbrev last : (Cursor → Piece) → Cursor
 last piece = written piece mostPieces first .next
 
-refused-over : (n room : ℕ) → isDone (last (refusal n room) .place) ≡ true
-refused-over n room = ap (λ (p : Piece). isDone (p .next .place)) (refused-once n room mostPieces (omega arith))
+refused-over : (w : Refused) (room : ℕ) → isDone (last (refusal w room) .place) ≡ true
+refused-over w room = ap (λ (p : Piece). isDone (p .next .place)) (refused-once w room mostPieces (omega arith))
 
 rests-last : (i : Inputs) (room : ℕ) → Rests (viewIn i) room (last (pieceOf (viewIn i) room))
 rests-last i room = settled (viewIn i) room (few-there i) mostPieces (omega arith)
@@ -221,11 +221,11 @@ fits-over i room bytes h = by-end (isDone (last (pieceOf (viewIn i) room) .place
         absurd (omega (arith, rests-last i room e, lines-fit (i .tables) (i .strings) (i .blob) (last (pieceOf (viewIn i) room)) bytes))
 
 over-by : (s : List ℕ) (b : Bundle) (room : ℕ) → Bytes s → longestLine ≤ room → isDone (last (answerPiece (bundleSays s b) room) .place) ≡ true
-over-by s Malformed room bytes h = refused-over (number BadInput) room
+over-by s Malformed room bytes h = refused-over (refusalSays BadInput) room
 over-by s (Streams t n b) room bytes h = fits-over _ room (bytes-part s (t .at) (t .len) bytes) h
 
 stays-by : (a : Answer Inputs) (room : ℕ) → let piece = answerPiece a room in isDone (last piece .place) ≡ false → Stays piece (last piece)
-stays-by (refused n) room e = let f = refused-over n room in let z : _≡_ {A = ℕ} 0 1 = cc in absurd (omega arith)
+stays-by (refused w) room e = let f = refused-over w room in let z : _≡_ {A = ℕ} 0 1 = cc in absurd (omega arith)
 stays-by (value i) room e = long-line-stays (viewIn i) room (last (pieceOf (viewIn i) room)) (rests-last i room e)
 
 held-by : (s : List ℕ) (b : Bundle) (room : ℕ) (c : Cursor) → length (refusedLine (number BadInput)) ≤ room

@@ -7,7 +7,8 @@ use Prim.Native.Nat.{ℕ, zero, suc, _+_, _*_, _<_, _≤_}
 use native.Mathlib.Omega.{arith}
 use lib.ListN.{length, getElem?}
 use Rattle.buffers.specs.Texts.{Text, q}
-use Rattle.buffers.specs.Replies.{number, Answer, refused, value, nameOr5}
+use Rattle.buffers.specs.Replies as replies
+use Rattle.buffers.specs.Replies.{Answer, refused, refusedBy, value, nameOr5}
 use Rattle.buffers.specs.declared.Refusal.{Refusal}
 use Rattle.buffers.specs.declared.Refusal.the-variants.{NoSuchRow}
 use Rattle.header.specs.declared.Opened.{Opened}
@@ -110,7 +111,7 @@ module _ (o : Option Text) {a : Answer Text} (e : a ≡ nameOr5 o) where
   goes : (x y : Cursor) → cond (hasLine a) x y ≡ x
   goes x y = ap (λ (b : Bool). cond b x y) (ap hasLine e ∙ name-has o)
 
-module _ {a : Answer Text} (e : a ≡ refused (number NoSuchRow)) where
+module _ {a : Answer Text} (e : a ≡ refusedBy NoSuchRow) where
   untold : (key : Text) → nameLine key a ≡ []
   unfolding missingLine
   untold key = ap (nameLine key) e
@@ -134,7 +135,7 @@ module _ (v : View) (c m : ℕ) (k : Method) (is : theMethod v c m ≡ value k) 
   unfolding methodGenericName
   generic-at i e = rw (is, e)
 
-  generic-past : methodGenericName v c m (length (k .generics)) ≡ refused (number NoSuchRow)
+  generic-past : methodGenericName v c m (length (k .generics)) ≡ refusedBy NoSuchRow
   unfolding methodGenericName
   generic-past = rw (is, item-end (k .generics))
 
@@ -146,7 +147,7 @@ module _ (v : View) (c m : ℕ) (k : Method) (is : theMethod v c m ≡ value k) 
   unfolding parameterName
   name-at i e = rw (is, e)
 
-  type-past : parameterType v c m (length (k .parameters)) ≡ refused (number NoSuchRow)
+  type-past : parameterType v c m (length (k .parameters)) ≡ refusedBy NoSuchRow
   unfolding parameterType
   type-past = rw (is, item-end (k .parameters))
 
@@ -194,7 +195,7 @@ module _ (v : View) (c : ℕ) (k : Class) (is : theClass v c ≡ value k) where
   method-at : (m : ℕ) {x : Method} → getElem? (k .methods) m ≡ some x → theMethod v c m ≡ value x
   method-at m e = rw (is, e)
 
-  method-past : methodName v c (length (k .methods)) ≡ refused (number NoSuchRow)
+  method-past : methodName v c (length (k .methods)) ≡ refusedBy NoSuchRow
   unfolding methodName
   method-past = rw (is, item-end (k .methods))
 
@@ -210,7 +211,7 @@ module _ (v : View) (c : ℕ) (k : Class) (is : theClass v c ≡ value k) where
   unfolding genericName
   class-generic i e = rw (is, e)
 
-  class-generic-past : genericName v c (length (k .generics)) ≡ refused (number NoSuchRow)
+  class-generic-past : genericName v c (length (k .generics)) ≡ refusedBy NoSuchRow
   unfolding genericName
   class-generic-past = rw (is, item-end (k .generics))
 
@@ -218,7 +219,7 @@ module _ (v : View) (c : ℕ) (k : Class) (is : theClass v c ≡ value k) where
   unfolding baseName
   base-at i e = rw (is, e)
 
-  base-past : baseName v c (length (k .bases)) ≡ refused (number NoSuchRow)
+  base-past : baseName v c (length (k .bases)) ≡ refusedBy NoSuchRow
   unfolding baseName
   base-past = rw (is, item-end (k .bases))
 
@@ -260,7 +261,7 @@ module _ (v : View) (few : FewIn v) where
     class-at : (c : ℕ) {k : Class} → getElem? (classRecord v) c ≡ some k → theClass v c ≡ value k
     class-at c e = rw (ready, e)
 
-    class-past : className v (length (classRecord v)) ≡ refused (number NoSuchRow)
+    class-past : className v (length (classRecord v)) ≡ refusedBy NoSuchRow
     unfolding className
     class-past = rw (ready, item-end (classRecord v))
 
@@ -285,15 +286,15 @@ module _ (v : View) (few : FewIn v) where
     unfolding listing
     listing-found stop e = rw (e, ready)
 
-  listing-refused : (n : ℕ) → walkAnswer v .stop ≡ refused n → listing v ≡ refusedLine n
+  listing-refused : (w : replies.Refused) → walkAnswer v .stop ≡ refused w → listing v ≡ refusedLine (w .number)
   unfolding listing
-  listing-refused n e = rw e
+  listing-refused w e = rw e
 
-  refused-steps : (n : ℕ) → walkAnswer v .stop ≡ refused n → Within v 1 first (refusedLine n) done
+  refused-steps : (w : replies.Refused) → walkAnswer v .stop ≡ refused w → Within v 1 first (refusedLine (w .number)) done
   unfolding lineAt nextAt
-  refused-steps n e = single (ap stopLine e) (ap afterStop e)
+  refused-steps w e = single (ap stopLine e) (ap afterStop e)
 
-  stop-refused : {why : Refusal} → v .header .answer ≡ Refused why → walkAnswer v .stop ≡ refused (number why)
+  stop-refused : {why : Refusal} → v .header .answer ≡ Refused why → walkAnswer v .stop ≡ refusedBy why
   unfolding walkBy
   stop-refused e = rw e
 
@@ -301,9 +302,9 @@ module _ (v : View) (few : FewIn v) where
   Listed t = Within v listingSteps first t done
 
   by-opening : (a : Opened) → v .header .answer ≡ a → (s : Answer ℕ) → walkAnswer v .stop ≡ s → Listed (listing v)
-  by-opening a e (refused n) f = subst Listed (sym (listing-refused n f)) (fewer (omega arith) (refused-steps n f))
+  by-opening a e (refused w) f = subst Listed (sym (listing-refused w f)) (fewer (omega arith) (refused-steps w f))
   by-opening (Refused why) e (value stop) f =
-      let g : refused (number why) ≡ value stop = sym (stop-refused e) ∙ f in
+      let g : refusedBy why ≡ value stop = sym (stop-refused e) ∙ f in
       let z : _≡_ {A = ℕ} 0 1 = cc in
       absurd (omega arith)
   by-opening Ready e (value stop) f =

@@ -10,7 +10,7 @@ use lib.ListN.{length, drop, getElem?}
 use Rattle.numbers.specs.Parts.{part}
 use Rattle.numbers.specs.Reading.{Reader}
 use Rattle.buffers.specs.Texts.{Text}
-use Rattle.buffers.specs.Replies.{Answer, refused, number, nameOr5}
+use Rattle.buffers.specs.Replies.{Answer, refusedBy, nameOr5}
 use Rattle.buffers.specs.Telling.{ToldIs, name, missing, no-row}
 use Rattle.buffers.specs.declared.Refusal.the-variants.{NoSuchRow}
 use Rattle.buffers.specs.declared.Told.{Told}
@@ -110,7 +110,7 @@ module _ (v : View) (heap : List ℕ) (m : ℕ) where
   answer-there p e =
       ap (λ (a : Answer Parameter). a ⟫ (λ k. nameOr5 (k .type))) (ap (λ (l : List Parameter). item l p) parameters-are ∙ parameter-some v m p (typesOf v m) e)
 
-  answer-gone : (f : Parameter → Answer Text) (p : ℕ) → getElem? (typesOf v m) p ≡ none → (item (method v m .parameters) p ⟫ f) ≡ refused (number NoSuchRow)
+  answer-gone : (f : Parameter → Answer Text) (p : ℕ) → getElem? (typesOf v m) p ≡ none → (item (method v m .parameters) p ⟫ f) ≡ refusedBy NoSuchRow
   answer-gone f p e =
       ap (λ (a : Answer Parameter). a ⟫ f) (ap (λ (l : List Parameter). item l p) parameters-are ∙ parameter-gone v m p (typesOf v m) e)
 

@@ -21,7 +21,7 @@ use Rattle.buffers.specs.Texts.{Text}
 use Rattle.buffers.specs.Writes.{Kept, Wrote}
 use Rattle.buffers.proofs.Writing.{kept-same}
 use Rattle.heaps.specs.Lookups.{blobAt, blob}
-use Rattle.heaps.specs.declared.Absence.{Absence}
+use Rattle.buffers.specs.declared.Reason.{Reason}
 use Rattle.heaps.specs.declared.Part.{Part}
 use Rattle.heaps.specs.declared.Part.the-variants.{Found, Absent}
 use Rattle.heaps.proofs.Lookups.{blob-within}
@@ -109,7 +109,7 @@ module _ {t l : List ℕ} (laid : Laid t l) (strings heap : List ℕ) (m c : ℕ
     looked-at : p ≡ blobAt heap (cell t l columns.methodSignature m)
     looked-at = looked ∙ ap (blobAt heap) told
 
-    pub no-blob : (b : List ℕ) (at : ℕ) {why : Absence} → p ≡ Absent why → ReadingIs v heap m (readBy v m c) b at b Missing
+    pub no-blob : (b : List ℕ) (at : ℕ) {why : Reason} → p ≡ Absent why → ReadingIs v heap m (readBy v m c) b at b Missing
     no-blob b at f = missing (by-class ∙ ap (λ (o : Option (List ℕ)). andThen o (λ bytes. signature e bytes 0 .got)) (blob-absent heap (cell t l columns.methodSignature m) (sym f ∙ looked-at))) (kept-same b at)
 
     module _ {start len : ℕ} (f : p ≡ Found start len) where

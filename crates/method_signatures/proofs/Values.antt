@@ -12,12 +12,12 @@ use Rattle.numbers.specs.Parts.{part, CutOf}
 use Rattle.numbers.proofs.Parts.{cut-is}
 use Rattle.buffers.specs.Texts.{Text, q, decimal}
 use Rattle.buffers.specs.Writes.{Wrote, Said, written}
-use Rattle.buffers.specs.Replies.{refused, value, number, nameOr5}
+use Rattle.buffers.specs.Replies.{refusedBy, value, nameOr5}
 use Rattle.buffers.specs.Telling.{ToldIs, name, missing}
 use Rattle.buffers.specs.declared.Refusal.the-variants.{NoSuchRow}
 use Rattle.buffers.specs.declared.Told.the-variants.{Name, Missing as NoName}
 use Rattle.heaps.specs.Lookups.{stringAt, string}
-use Rattle.heaps.specs.declared.Absence.{Absence}
+use Rattle.buffers.specs.declared.Reason.{Reason}
 use Rattle.heaps.specs.declared.Part.{Part}
 use Rattle.heaps.specs.declared.Part.the-variants.{Found, Absent}
 use Rattle.heaps.proofs.Lookups.{string-within, string-some, string-none}
@@ -57,7 +57,7 @@ module _ (v : View) (m : ℕ) where
       → orNoRow (getElem? (parametersFrom v m 0 ts) p) ≡ value (record { type = t; name = parameterName v m p })
   parameter-some p ts e = ap orNoRow (parameter-at 0 p ts) ∙ rw (e, zero-add p)
 
-  pub parameter-gone : (p : ℕ) (ts : List (Option Text)) → getElem? ts p ≡ none → orNoRow (getElem? (parametersFrom v m 0 ts) p) ≡ refused (number NoSuchRow)
+  pub parameter-gone : (p : ℕ) (ts : List (Option Text)) → getElem? ts p ≡ none → orNoRow (getElem? (parametersFrom v m 0 ts) p) ≡ refusedBy NoSuchRow
   parameter-gone p ts e = ap orNoRow (parameter-at 0 p ts) ∙ rw e
 
   -- A method by what its signature is.
@@ -147,7 +147,7 @@ module _ {t l : List ℕ} (laid : Laid t l) (strings blob : List ℕ) (m : ℕ) 
 
     -- The string that the Param row finds, and the empty name where it finds none.
     module _ {part : Part} (k : first + p ≤ rowsAt l columns.paramName) where
-      pub said-no-param : part ≡ stringAt strings (cell t l columns.paramName (first + p - 1)) → {why : Absence} → part ≡ Absent why → {b b′ : List ℕ} {at end : ℕ} → Wrote b at [] b′ end
+      pub said-no-param : part ≡ stringAt strings (cell t l columns.paramName (first + p - 1)) → {why : Reason} → part ≡ Absent why → {b b′ : List ℕ} {at end : ℕ} → Wrote b at [] b′ end
           → Said b at b′ (parameterName v m p) (some end)
       said-no-param e f w = rw (name-read k, string-none strings _ (sym f ∙ e)) (written w)
 

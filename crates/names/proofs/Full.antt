@@ -14,7 +14,7 @@ use Rattle.buffers.specs.Writes.{Kept, Wrote, Said, missing, written}
 use Rattle.buffers.proofs.Writing.{wrote-then}
 use Rattle.backwards.proofs.Laws.{wrote-over-kept}
 use Rattle.heaps.specs.Lookups.{before, stringAt, string}
-use Rattle.heaps.specs.declared.Absence.{Absence}
+use Rattle.buffers.specs.declared.Reason.{Reason}
 use Rattle.heaps.specs.declared.Part.{Part}
 use Rattle.heaps.specs.declared.Part.the-variants.{Found, Absent}
 use Rattle.heaps.proofs.Lookups.{string-within, string-some, string-none}
@@ -68,7 +68,7 @@ module _ {b b′ : List ℕ} {at at′ : ℕ} {p : Part} where
       let at = sym f ∙ e in
       rw (string-some (now s) i at, ← (cut-is _ s _ _ (string-within (now s) i at) c .bytes)) w
 
-  pub dotted-none : (s : List ℕ) (i : ℕ) {why : Absence} → p ≡ stringAt s i → p ≡ Absent why → Wrote b at [] b′ at′ → Wrote b at (dotted (string s i)) b′ at′
+  pub dotted-none : (s : List ℕ) (i : ℕ) {why : Reason} → p ≡ stringAt s i → p ≡ Absent why → Wrote b at [] b′ at′ → Wrote b at (dotted (string s i)) b′ at′
   unfolding dotted
   dotted-none s i e f w = rw (string-none s i (sym f ∙ e)) w
 
@@ -105,7 +105,7 @@ module _ {t l : List ℕ} (laid : Laid t l) (strings blob : List ℕ) where
       unfolding refFullName viewOf otherRow
       ref-is = rw (ne-eqb r 0 n, lt-ltb (r - 1) (keptRows (optionsIn l) (headerIn t l) (length t) typeRef) (omega (arith, kept)))
 
-      pub ref-bare : {p : Part} {why : Absence} → p ≡ stringAt strings (cell t l columns.refName (r - 1)) → p ≡ Absent why
+      pub ref-bare : {p : Part} {why : Reason} → p ≡ stringAt strings (cell t l columns.refName (r - 1)) → p ≡ Absent why
           → refFullName (viewIn t l strings blob) r ≡ none
       ref-bare e f =
           ref-is

@@ -11,7 +11,7 @@ use lib.Seq.{length-take-le, take-take}
 use Rattle.numbers.specs.Parts.{part}
 use Rattle.buffers.specs.Texts.{Text}
 use Rattle.heaps.specs.Lookups.{before, stringAt, string}
-use Rattle.heaps.specs.declared.Absence.{Absence}
+use Rattle.buffers.specs.declared.Reason.{Reason}
 use Rattle.heaps.specs.declared.Part.{Part}
 use Rattle.heaps.specs.declared.Part.the-variants.{Found, Absent}
 use Rattle.heaps.proofs.Lookups.{before-most, string-within, string-some, string-none}
@@ -75,7 +75,7 @@ module _ (t l strings : List ℕ) (c r : ℕ) where
           let at = sym f ∙ q in
           record { is = sym (there n ∙ string-some strings (cell t l c (r - 1)) at); inside = string-within strings (cell t l c (r - 1)) at }
 
-      pub class-absent : {why : Absence} → p ≡ Absent why → Shows strings (classString t l strings c r) Missing
+      pub class-absent : {why : Reason} → p ≡ Absent why → Shows strings (classString t l strings c r) Missing
       class-absent f = shows-none (there n ∙ string-none strings (cell t l c (r - 1)) (sym f ∙ q))
 
 -- The name of a class is the string of its name column, cut at the first back-quote.

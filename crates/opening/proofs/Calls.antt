@@ -3,7 +3,7 @@
 use mathlib.Core.Path.{_≡_, sym, ap, subst, _∙_}
 use mathlib.Core.List.{List}
 use Prim.Native.Nat.{ℕ}
-use Rattle.buffers.specs.Replies.{number, refused, Named}
+use Rattle.buffers.specs.Replies.{refusedBy, Named}
 use Rattle.buffers.specs.declared.Refusal.{Refusal}
 use Rattle.buffers.specs.declared.Reply.{Reply}
 use Rattle.buffers.specs.declared.Reply.the-variants.{No}
@@ -26,7 +26,7 @@ module _ (strings blob : List ℕ) {o : Options} {t : List ℕ} {a : Opened} {l 
     unfolding viewOf
     number-refused call = sym (opening-first v why (sym (c .answer) ∙ e) .0 call)
 
-    pub name-refused : (call : NameCall) {b b′ : List ℕ} {r : Reply} → Named (refused (number why)) b r b′ → Named (nameAnswer call v) b r b′
+    pub name-refused : (call : NameCall) {b b′ : List ℕ} {r : Reply} → Named (refusedBy why) b r b′ → Named (nameAnswer call v) b r b′
     unfolding viewOf
     name-refused call n = rw (opening-first v why (sym (c .answer) ∙ e) .1 call) n
 

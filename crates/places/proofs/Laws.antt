@@ -8,7 +8,7 @@ use borrow.Author.Tests.{leb-false}
 use lib.Dec.{T, leb}
 use lib.ListN.{length}
 use Rattle.numbers.proofs.Lists.{tabulate-item, tabulate-past, tabulate-length}
-use Rattle.buffers.specs.Replies.{refused, value, number}
+use Rattle.buffers.specs.Replies.{refusedBy, value}
 use Rattle.buffers.specs.declared.Refusal.the-variants.{NoSuchRow}
 use Rattle.classes.specs.Numbering.{rowOf}
 use Rattle.classes.specs.declared.ClassNumber.{ClassNumber}
@@ -73,7 +73,7 @@ module _ {t l : List ℕ} (laid : Laid t l) (strings blob : List ℕ) where
   unfolding viewOf
   listed c h = class-at v c (laid .ready) (omega (arith, classes-are laid strings blob columns.typeName (omega arith) refl))
 
-  pub unlisted : (c : ℕ) → rowsAt l columns.typeName < c + 2 → theClass v c ≡ refused (number NoSuchRow)
+  pub unlisted : (c : ℕ) → rowsAt l columns.typeName < c + 2 → theClass v c ≡ refusedBy NoSuchRow
   unfolding viewOf
   unlisted c h = class-none v c (laid .ready) (omega (arith, classes-are laid strings blob columns.typeName (omega arith) refl))
 
@@ -119,7 +119,7 @@ module _ (v : View) (c : ℕ) {first end : ℕ} (is : theClass v c ≡ value (cl
         no-method (ap (λ a. a ⟫ (λ k. item (k .methods) m)) is
         ∙ ap orNoRow (tabulate-past (method v) (leftAfter v c) (leftAfter v (c + 1) - leftAfter v c) m (omega (arith, range .begins, range .ends))))
 
-pub method-none : (v : View) (c m : ℕ) → theClass v c ≡ refused (number NoSuchRow) → MethodRowIs v c m NoMethod
+pub method-none : (v : View) (c m : ℕ) → theClass v c ≡ refusedBy NoSuchRow → MethodRowIs v c m NoMethod
 method-none v c m e = no-method (ap (λ a. a ⟫ (λ k. item (k .methods) m)) e)
 
 -- What a caller that has matched the answer knows.
@@ -127,14 +127,14 @@ module _ {v : View} {c m : ℕ} where
   method-in : {i : ℕ} → MethodRowIs v c m (MethodAt i) → (theMethod v c m ≡ value (method v i)) × (i < rowsIn v methodDef)
   method-in (at-method e h) = (e, h)
 
-  method-out : MethodRowIs v c m NoMethod → theMethod v c m ≡ refused (number NoSuchRow)
+  method-out : MethodRowIs v c m NoMethod → theMethod v c m ≡ refusedBy NoSuchRow
   method-out (no-method e) = e
 
   module _ {r : MethodRow} (h : MethodRowIs v c m r) where
     pub method-found : {i : ℕ} → r ≡ MethodAt i → (theMethod v c m ≡ value (method v i)) × (i < rowsIn v methodDef)
     method-found e = method-in (subst (MethodRowIs v c m) e h)
 
-    pub method-missed : r ≡ NoMethod → theMethod v c m ≡ refused (number NoSuchRow)
+    pub method-missed : r ≡ NoMethod → theMethod v c m ≡ refusedBy NoSuchRow
     method-missed e = method-out (subst (MethodRowIs v c m) e h)
 
 -- A row that is told apart by its case.

@@ -7,7 +7,7 @@ use Prim.Native.Nat.{ℕ, _+_, _-_, _*_, _≤_, _<_}
 use native.Mathlib.Omega.{arith}
 use lib.ListN.{length, getElem?}
 use Rattle.buffers.specs.Texts.{Text}
-use Rattle.buffers.specs.Replies.{Answer, refused, value, number, nameOr5}
+use Rattle.buffers.specs.Replies.{Refused, Answer, refused, refusedBy, value, nameOr5}
 use Rattle.buffers.specs.declared.Reply.the-variants.{Is, No}
 use Rattle.buffers.specs.declared.Refusal.the-variants.{NoSuchRow}
 use Rattle.buffers.specs.Telling.{ToldIs, no-row}
@@ -43,7 +43,7 @@ use Rattle.places.proofs.Laws.{listed, unlisted, range-of, methods-coun
 through : {A B : Type 0} {a : Answer A} (f : A → Answer B) {x : A} → a ≡ value x → (a ⟫ f) ≡ f x
 through f e = ap (λ a. a ⟫ f) e
 
-stopped : {A B : Type 0} {a : Answer A} (f : A → Answer B) {n : ℕ} → a ≡ refused n → (a ⟫ f) ≡ refused n
+stopped : {A B : Type 0} {a : Answer A} (f : A → Answer B) {w : Refused} → a ≡ refused w → (a ⟫ f) ≡ refused w
 stopped f e = ap (λ a. a ⟫ f) e
 
 module _ {t l : List ℕ} (laid : Laid t l) (strings blob : List ℕ) where
@@ -89,7 +89,7 @@ module _ {t l : List ℕ} (laid : Laid t l) (strings blob : List ℕ) where
 
   -- A class that is not: every call for it answers 4.
   module _ (c : ℕ) (h : rowsAt l columns.typeName < c + 2) where
-    isn't : theClass v c ≡ refused (number NoSuchRow)
+    isn't : theClass v c ≡ refusedBy NoSuchRow
     isn't = unlisted laid strings blob c h
 
     pub no-class-flags : Numbered (classFlags v c) (No NoSuchRow)
@@ -163,7 +163,7 @@ module _ {t l : List ℕ} (laid : Laid t l) (strings blob : List ℕ) where
       method-parameter-name n = told-same (ap (λ (a : Answer Method). a ⟫ (λ k. item (k .parameters) p) ⟫ (λ (x : Parameter). nameOr5 (x .name))) (at .0)) n
 
   -- A method that is not: every call for it answers 4.
-  module _ (c m : ℕ) (isn't : theMethod v c m ≡ refused (number NoSuchRow)) where
+  module _ (c m : ℕ) (isn't : theMethod v c m ≡ refusedBy NoSuchRow) where
     pub no-method-flags : Numbered (methodFlags v c m) (No NoSuchRow)
     unfolding methodFlags
     no-method-flags = sym (stopped (λ k. value (k .flags)) isn't)

@@ -2,7 +2,7 @@
 use mathlib.Core.Path.{_≡_}
 use mathlib.Core.List.{List}
 use Prim.Native.Nat.{ℕ, _+_, _-_, _<_, _≤_}
-use Rattle.buffers.specs.Replies.{refused, value, number}
+use Rattle.buffers.specs.Replies.{refusedBy, value}
 use Rattle.buffers.specs.declared.Refusal.the-variants.{NoSuchRow}
 use Rattle.layouts.specs.Kinds.{methodDef}
 use Rattle.classes.specs.declared.TypeDefRow.{TypeDefRow}
@@ -27,7 +27,7 @@ pub data ClassRowIs (l : List ℕ) (c : ℕ) : ClassRow → Type 0 where
 -- Method m of class c is the method at a place of MethodDef, from 0; or there is none.
 pub data MethodRowIs (v : View) (c m : ℕ) : MethodRow → Type 0 where
   at-method : {i : ℕ} → theMethod v c m ≡ value (method v i) → i < rowsIn v methodDef → MethodRowIs v c m (MethodAt i)
-  no-method : theMethod v c m ≡ refused (number NoSuchRow) → MethodRowIs v c m NoMethod
+  no-method : theMethod v c m ≡ refusedBy NoSuchRow → MethodRowIs v c m NoMethod
 
 -- What is known of a class's methods is true of the view; of row 0 it says nothing.
 pub record Owns (v : View) (k : Own) : Type 0 where

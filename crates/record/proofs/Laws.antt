@@ -17,7 +17,7 @@ use Rattle.record.specs.Rows.{rowBytes}
 use Rattle.record.specs.View.{View, view, viewOf, isSide, otherRow, ViewBySizes}
 use Rattle.record.specs.Names.{classes}
 use Rattle.record.specs.Record.{Class, class, classRecord}
-use Rattle.buffers.specs.Replies.{refused, value, number}
+use Rattle.buffers.specs.Replies.{refusedBy, value}
 use Rattle.record.specs.Answers.{_⟫_, ready, orNoRow, item, walkAnswer, theClass, NumberCall, NameCall, ClassCount, ClassFlags, GenericCount, BaseCount, MethodCount, MethodFlags, MethodGenericCount, ParameterCount, ClassName, GenericName, BaseName, MethodName, MethodGenericName, ReturnType, ParameterType, ParameterName, classCount, classFlags, genericCount, baseCount, methodCount, methodFlags, methodGenericCount, parameterCount, className, genericName, baseName, methodName, methodGenericName, returnType, parameterType, parameterName, numberAnswer, nameAnswer, OpeningFirst}
 
 -- What the options say of an opened stream, they say by the index sizes.
@@ -53,7 +53,7 @@ class-at v c r h =
     ∙ ap orNoRow (tabulate-item (class v) 0 (classes v) c h)
     ∙ ap (λ k. value (class v k)) z
 
-pub class-none : (v : View) (c : ℕ) → v .header .answer ≡ Ready → classes v ≤ c → theClass v c ≡ refused (number NoSuchRow)
+pub class-none : (v : View) (c : ℕ) → v .header .answer ≡ Ready → classes v ≤ c → theClass v c ≡ refusedBy NoSuchRow
 unfolding classRecord
 class-none v c r h =
     ap (λ a. ready a ⟫ (λ _. value (classRecord v)) ⟫ (λ l. item l c)) r
@@ -63,7 +63,7 @@ pub opening-first : OpeningFirst
 unfolding classCount classFlags genericCount baseCount methodCount methodFlags methodGenericCount parameterCount className genericName baseName methodName methodGenericName returnType parameterType parameterName
 opening-first v why e = (numbers, names)
   where
-    numbers : (call : NumberCall) → numberAnswer call v ≡ refused (number why)
+    numbers : (call : NumberCall) → numberAnswer call v ≡ refusedBy why
     numbers ClassCount = rw e refl
     numbers (ClassFlags c) = rw e refl
     numbers (GenericCount c) = rw e refl
@@ -73,7 +73,7 @@ opening-first v why e = (numbers, names)
     numbers (MethodGenericCount c m) = rw e refl
     numbers (ParameterCount c m) = rw e refl
 
-    names : (call : NameCall) → nameAnswer call v ≡ refused (number why)
+    names : (call : NameCall) → nameAnswer call v ≡ refusedBy why
     names (ClassName c) = rw e refl
     names (GenericName c g) = rw e refl
     names (BaseName c b) = rw e refl

@@ -6,7 +6,7 @@ use mathlib.Core.Option.{Option, none, some}
 use Prim.Native.Nat.{ℕ}
 use lib.ListN.{length, getElem?}
 use Rattle.buffers.specs.Texts.{Text}
-use Rattle.buffers.specs.Replies.{number, Answer, refused, value, replySays, nameOr5}
+use Rattle.buffers.specs.Replies.{Answer, refused, refusedBy, value, replySays, nameOr5}
 use Rattle.buffers.specs.declared.Refusal.{Refusal}
 use Rattle.buffers.specs.declared.Refusal.the-variants.{NoSuchRow}
 use Rattle.buffers.specs.declared.Reply.{Reply}
@@ -19,17 +19,17 @@ use Rattle.record.specs.Record.{Parameter, Method, Class, classRecord}
 -- A value found by way of another; a refusal stands.
 infixl 1 _⟫_
 abbrev pub _⟫_ : {A B : Type 0} → Answer A → (A → Answer B) → Answer B
-refused n ⟫ f = refused n
+refused w ⟫ f = refused w
 value a ⟫ f = f a
 
 -- Refusals 1, 2 and 3 come before all others.
 abbrev pub ready : Opened → Answer Unit
-ready (Refused why) = refused (number why)
+ready (Refused why) = refusedBy why
 ready Ready = value tt
 
 -- What stands at a place of a list: 4 past its end.
 abbrev pub orNoRow : {A : Type 0} → Option A → Answer A
-orNoRow none = refused (number NoSuchRow)
+orNoRow none = refusedBy NoSuchRow
 orNoRow (some a) = value a
 
 abbrev pub item : {A : Type 0} → List A → ℕ → Answer A
@@ -147,7 +147,7 @@ nameAnswer (ParameterName c m p) v = parameterName v c m p
 abbrev pub OpeningFirst : Type 0
 OpeningFirst =
     (v : View) (why : Refusal) → v .header .answer ≡ Refused why
-    → ((call : NumberCall) → numberAnswer call v ≡ refused (number why)) × ((call : NameCall) → nameAnswer call v ≡ refused (number why))
+    → ((call : NumberCall) → numberAnswer call v ≡ refusedBy why) × ((call : NameCall) → nameAnswer call v ≡ refusedBy why)
 
 -- The promise of a call for a number: what its reply says is the answer. That of a call for a name is `Named` (buffers/Replies.antt).
 abbrev pub Numbered : Answer ℕ → Reply → Type 0

@@ -34,11 +34,15 @@ is eq none (some b) = false
 is eq (some a) none = false
 is eq (some a) (some b) = eq a b
 
--- Equal answers: one value, or one number that says no.
+-- Refused with a number, and no reason.
+abbrev pub refusedWith : {A : Type 0} → ℕ → Answer A
+refusedWith n = refused (record { number = n; reason = 0 })
+
+-- Equal answers: one value, or one refusal.
 unfoldable pub sameAnswer : Answer Text → Answer Text → Bool
-sameAnswer (refused m) (refused n) = eqb m n
-sameAnswer (refused m) (value t) = false
-sameAnswer (value s) (refused n) = false
+sameAnswer (refused v) (refused w) = eqb (v .number) (w .number) && eqb (v .reason) (w .reason)
+sameAnswer (refused v) (value t) = false
+sameAnswer (value s) (refused w) = false
 sameAnswer (value s) (value t) = same s t
 
 -- No tables, no heaps and no generic names.
@@ -77,7 +81,7 @@ cases =
     rendered (0x14 ∷ 0x08 ∷ 0x01 ∷ 0x01 ∷ 0x05 ∷ 0x01 ∷ 0x06 ∷ []) (value (q "int[3...7]")) ∷
     rendered (0x14 ∷ 0x08 ∷ 0x01 ∷ 0x00 ∷ 0x01 ∷ 0x7B ∷ []) (value (q "int[-3...]")) ∷
     rendered (0x1B ∷ 0x00 ∷ 0x02 ∷ 0x01 ∷ 0x17 ∷ 0x08 ∷ []) (value (q "FnPtr<void(, int)>")) ∷
-    rendered (0x17 ∷ []) (refused 5) ∷
+    rendered (0x17 ∷ []) (refusedWith 5) ∷
     []
 
 -- The twelve cases marked P.
@@ -89,7 +93,7 @@ unfoldable pub moreCases : List Bool
 moreCases =
     is eqb (uint (0xE0 ∷ 0 ∷ 0 ∷ 0 ∷ []) 0 .got) none ∷
     rendered (replicate 16 0x0F ++ 0x08 ∷ []) (value (repeated 16 (q "Ptr<") ++ q "int" ++ replicate 16 0x3E)) ∷
-    rendered (replicate 17 0x0F ++ 0x08 ∷ []) (refused 5) ∷
+    rendered (replicate 17 0x0F ++ 0x08 ∷ []) (refusedWith 5) ∷
     rendered (replicate 40 0x1D ++ 0x08 ∷ []) (value (q "int" ++ repeated 40 (q "[]"))) ∷
     []
 
@@ -111,7 +115,7 @@ pub record Limits : Type 0 where
 -- A buffer of 3 for `int` succeeds; of 2 gives 6 and two zeros. An empty name fits a buffer of 0.
 pub record Buffers : Type 0 where
   pub fits : (nameReply (value (q "int")) 3 ≡ value 3) × (nameBuffer (value (q "int")) 3 ≡ q "int")
-  pub lacks : (nameReply (value (q "int")) 2 ≡ refused 6) × (nameBuffer (value (q "int")) 2 ≡ 0 ∷ 0 ∷ [])
+  pub lacks : (nameReply (value (q "int")) 2 ≡ refusedWith 6) × (nameBuffer (value (q "int")) 2 ≡ 0 ∷ 0 ∷ [])
   pub empty : (nameReply (value []) 0 ≡ value 0) × (nameBuffer (value []) 0 ≡ [])
 
 -- The whole case: 56 table bytes, 9 string bytes, no blob.

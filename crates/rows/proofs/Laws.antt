@@ -18,7 +18,7 @@ use Rattle.buffers.specs.Telling.{ToldIs, name, missing}
 use Rattle.buffers.specs.declared.Told.the-variants.{Name, Missing}
 use Rattle.buffers.proofs.Writing.{kept-same}
 use Rattle.heaps.specs.Lookups.{stringAt, string}
-use Rattle.heaps.specs.declared.Absence.{Absence}
+use Rattle.buffers.specs.declared.Reason.{Reason}
 use Rattle.heaps.specs.declared.Part.{Part}
 use Rattle.heaps.specs.declared.Part.the-variants.{Found, Absent}
 use Rattle.heaps.proofs.Lookups.{string-within, string-some, string-none}
@@ -145,7 +145,7 @@ module _ {b : List ℕ} {at : ℕ} {p : Part} where
       let there = sym f ∙ e in
       name (now text) (rw (string-some (now s) i there, ← (cut-is _ s _ _ (string-within (now s) i there) c .bytes)) refl) w
 
-  pub told-absent : (s : List ℕ) (i : ℕ) {why : Absence} → p ≡ stringAt s i → p ≡ Absent why → ToldIs (nameOr5 (string s i)) b at b Missing
+  pub told-absent : (s : List ℕ) (i : ℕ) {why : Reason} → p ≡ stringAt s i → p ≡ Absent why → ToldIs (nameOr5 (string s i)) b at b Missing
   told-absent s i e f = missing (ap nameOr5 (string-none s i (sym f ∙ e))) (kept-same b at)
 
 -- Columns of one table have the same rows.

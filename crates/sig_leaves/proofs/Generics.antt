@@ -17,7 +17,7 @@ use Rattle.buffers.specs.declared.Place.{Place}
 use Rattle.buffers.specs.declared.Place.the-variants.{Next, Missing}
 use Rattle.buffers.proofs.Writing.{said-some, said-none, said-missing}
 use Rattle.heaps.specs.Lookups.{stringAt, string}
-use Rattle.heaps.specs.declared.Absence.{Absence}
+use Rattle.buffers.specs.declared.Reason.{Reason}
 use Rattle.heaps.specs.declared.Part.{Part}
 use Rattle.heaps.specs.declared.Part.the-variants.{Found, Absent}
 use Rattle.heaps.proofs.Lookups.{string-within, string-some, string-none}
@@ -46,7 +46,7 @@ module _ {b b′ : List ℕ} {at : ℕ} {p : Part} where
       let at = sym f ∙ e in
       rw (string-some (now s) i at, ← (cut-is _ s _ _ (string-within (now s) i at) c .bytes)) (written w)
 
-  pub said-no-string : (s : List ℕ) (i : ℕ) {why : Absence} → p ≡ stringAt s i → p ≡ Absent why → Kept b at b′ → Said b at b′ (string s i) none
+  pub said-no-string : (s : List ℕ) (i : ℕ) {why : Reason} → p ≡ stringAt s i → p ≡ Absent why → Kept b at b′ → Said b at b′ (string s i) none
   said-no-string s i e f k = said-missing (string-none s i (sym f ∙ e)) k
 
 -- Parameter i of an owner as stored.

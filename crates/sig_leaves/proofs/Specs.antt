@@ -8,7 +8,7 @@ use borrow.Author.Tests.{eq-eqb, ne-eqb, lt-ltb, le-ltb}
 use lib.ListN.{length}
 use Rattle.numbers.specs.Parts.{part}
 use Rattle.heaps.specs.Lookups.{blobAt, blob}
-use Rattle.heaps.specs.declared.Absence.{Absence}
+use Rattle.buffers.specs.declared.Reason.{Reason}
 use Rattle.heaps.specs.declared.Part.{Part}
 use Rattle.heaps.specs.declared.Part.the-variants.{Found, Absent}
 use Rattle.heaps.proofs.Lookups.{blob-within}
@@ -28,7 +28,7 @@ pub blob-some : (s : List ℕ) (i : ℕ) {start n : ℕ} → Found start n ≡ b
 unfolding blob
 blob-some s i e = rw (← e)
 
-pub blob-absent : (s : List ℕ) (i : ℕ) {why : Absence} → Absent why ≡ blobAt s i → blob s i ≡ none
+pub blob-absent : (s : List ℕ) (i : ℕ) {why : Reason} → Absent why ≡ blobAt s i → blob s i ≡ none
 unfolding blob
 blob-absent s i e = rw (← e)
 
@@ -62,7 +62,7 @@ module _ {t l : List ℕ} (laid : Laid t l) (strings heap : List ℕ) (r : ℕ) 
             let at = sym f ∙ looked-at in
             record { is = sym (spec-is ∙ blob-some heap (cell t l columns.specSignature (r - 1)) at); inside = blob-within heap (cell t l columns.specSignature (r - 1)) at }
 
-        pub spec-absent : {why : Absence} → p ≡ Absent why → BlobIs heap (specBlob (viewIn t l strings heap) r) Missing
+        pub spec-absent : {why : Reason} → p ≡ Absent why → BlobIs heap (specBlob (viewIn t l strings heap) r) Missing
         spec-absent f = record { is = sym (spec-is ∙ blob-absent heap (cell t l columns.specSignature (r - 1)) (sym f ∙ looked-at)); inside = tt }
 
 -- An answer that was matched.

@@ -3,7 +3,6 @@ use mathlib.Core.Path.{_≡_, ap}
 use mathlib.Core.List.{List}
 use Prim.Native.Nat.{ℕ}
 use lib.ListN.{length}
-use Rattle.buffers.specs.Replies.{number}
 use Rattle.buffers.proofs.Replies.{reply-same}
 use Rattle.buffers.specs.declared.Refusal.{Refusal}
 use Rattle.header.specs.Stream.{opened}
@@ -16,7 +15,7 @@ use Rattle.tables.specs.Extents.{Walked, walkSays, walkBy, walkOf, refus
 use Rattle.tables.specs.declared.Extents.{Extents}
 
 module _ (o : Options) (s : List ℕ) (h : Header) where
-  pub is-refused : (why : Refusal) → h ≡ opened o s → h .answer ≡ Refused why → refusedWalk (number why) ≡ walkOf o s
+  pub is-refused : (why : Refusal) → h ≡ opened o s → h .answer ≡ Refused why → refusedWalk why ≡ walkOf o s
   unfolding walkBy
   is-refused why e f = rw (← e, f)
 

@@ -7,7 +7,8 @@ use Prim.Native.Nat.{ℕ, zero, suc, _+_, _*_, _-_, _/_, min}
 use lib.Dec.{ltb, leb, eqb}
 use lib.ListN.{length, getD, replicate}
 use Rattle.numbers.specs.Lists.{tabulate}
-use Rattle.buffers.specs.Replies.{Answer, refused, value, replySays, number}
+use Rattle.buffers.specs.Replies.{Answer, refusedBy, value, replySays}
+use Rattle.buffers.specs.declared.Refusal.{Refusal}
 use Rattle.header.specs.Stream.{opened}
 use Rattle.header.specs.declared.Options.{Options}
 use Rattle.header.specs.declared.Header.{Header}
@@ -75,8 +76,8 @@ abbrev pub inBlock : List ℕ → ℕ → ℕ → ℕ
 inBlock block setting kind = getD block (8 * kind + setting) 0
 
 -- A refused stream has no extents.
-abbrev pub refusedWalk : ℕ → Walked
-refusedWalk n = record { stop = refused n; starts = replicate 64 0; sizes = replicate 64 0; rows = replicate 64 0 }
+abbrev pub refusedWalk : Refusal → Walked
+refusedWalk why = record { stop = refusedBy why; starts = replicate 64 0; sizes = replicate 64 0; rows = replicate 64 0 }
 
 -- Whether DeclSecurity counts for HasCustomAttribute (II.24.2.6): all that is read of the options once a stream is open.
 abbrev pub counted : Options → Header → Bool
@@ -91,7 +92,7 @@ rowSizeIn o h = rowSize (widthIn (sizesIn o h))
 
 -- The walk's reply, by the index sizes, by what opening found and by the stream's length.
 abbrev pub answered : Opened → IndexSizes → Header → ℕ → Walked
-answered (Refused why) w h n = refusedWalk (number why)
+answered (Refused why) w h n = refusedWalk why
 answered Ready w h n = walked (rowSize (widthIn w)) (h .counts) n (h .first)
 
 unfoldable pub walkBy : IndexSizes → Header → ℕ → Walked

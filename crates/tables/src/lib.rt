@@ -8,7 +8,6 @@ use layouts::IndexSizes;
 use numbers::wide;
 ghost use mathlib.Core.Path.{_≡_};
 ghost use Prim.Native.Nat.{ℕ, _-_, _/_, _≤_, _<_, min};
-ghost use Rattle.buffers.specs.Replies.{number};
 ghost use Rattle.layouts.specs.Columns.{widthIn, rowSize};
 ghost use Rattle.tables.specs.Extents.{walkSays, walked, refusedWalk};
 
@@ -34,7 +33,7 @@ fn whole_rows(room: usize, size: u32, n: u32) -> u32
 
 // The extents of a stream that is refused.
 pub fn refused_extents(why: Refusal) -> Extents
-    ensures { λ r. ⌜ walkSays r ≡ refusedWalk (number why) ⌝ }
+    ensures { λ r. ⌜ walkSays r ≡ refusedWalk why ⌝ }
 {
     Extents {
         answer: Reply::No(why),

@@ -4,6 +4,7 @@
 // its own, a longer one with those of 0 bytes and of its own length, one less and one more; a refusal with all of up to 66 bytes. Each
 // buffer holds 0xAA before. The signature and the text stand in pieces (see pieces.rt).
 use crate::pieces::expand;
+use buffers::Reason;
 use buffers::Refusal;
 use buffers::Reply;
 use buffers::refusal_number;
@@ -266,7 +267,7 @@ fn render_by(
             Came { reply, next }
         }
         Rendering::Failed(next) => {
-            let reply = buffers::refuse(buf, Refusal::NoName);
+            let reply = buffers::refuse(buf, Refusal::NoName(Reason::Untold));
             Came { reply, next }
         }
     }

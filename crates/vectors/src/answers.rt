@@ -1,5 +1,6 @@
 // What each kind of case answers, as text.
 use super::walk_text::push_walk;
+use buffers::Reason;
 use buffers::Refusal;
 use buffers::Reply;
 use buffers::push;
@@ -141,7 +142,7 @@ fn answer_in(buffer: &mut [u8], room: usize, name: &[u8]) -> Reply {
 // The same of a call that is refused, with 5, in room of eight.
 fn push_refused(out: &mut [u8]) -> usize {
     let mut space = [0xAAu8; 8];
-    let r = buffers::refuse(&mut space, Refusal::NoName);
+    let r = buffers::refuse(&mut space, Refusal::NoName(Reason::Untold));
     push_reply(out, r, &space)
 }
 

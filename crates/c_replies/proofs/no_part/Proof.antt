@@ -10,12 +10,12 @@ refusal-number-requires : tie.Need-refusal-number-requires
 refusal-number-requires c κs = search needs
 
 -- src/lib.rt:54:18
-cast-t3 : tie.Need-cast-t3
-cast-t3 c = search needs
+cast-t4 : tie.Need-cast-t4
+cast-t4 c = search needs
 
 -- src/lib.rt:48:1
 returns : tie.Need-returns
 returns c = rw (c .refusal-number .ensures)
 
 pub no-part-spec : {M : Type 1} → statement M
-no-part-spec = tie.close (tie.spec refusal-number-requires cast-t3 returns)
+no-part-spec = tie.close (tie.spec refusal-number-requires cast-t4 returns)

@@ -19,8 +19,8 @@ cut-requires : tie.Need-cut-requires
 cut-requires c κs = search needs
 
 -- src/lib.rt:89:48
-enum-told : tie.Need-enum-told
-enum-told c = search needs
+enum-known-p-2 : tie.Need-enum-known-p-2
+enum-known-p-2 c = search needs
 
 -- src/lib.rt:89:24
 refusal-number-requires : tie.Need-refusal-number-requires
@@ -39,7 +39,7 @@ returns c =
 
 -- src/lib.rt:79:1
 returns-2 : tie.Need-returns-2
-returns-2 c = rw (c .before .before .enum-told .given .1) (record { number = c .before .refusal-number .ensures; part = cut-is _ _ _ _ (search needs) (c .cut2 .ensures) })
+returns-2 c = rw (c .before .before .before .p2 .given .1) (record { number = c .before .refusal-number .ensures; part = cut-is _ _ _ _ (search needs) (c .cut2 .ensures) })
 
 pub hand-spec : {M : Type 1} → statement M
 hand-spec =
@@ -47,7 +47,7 @@ hand-spec =
     (tie.spec
     enum-known-p
     cut-requires
-    enum-told
+    enum-known-p-2
     refusal-number-requires
     cut-requires-2
     returns
