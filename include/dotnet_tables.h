@@ -21,15 +21,16 @@
  * Classes, methods, generic parameters, base types and parameters are meant by their place, from 0: a class in the record, a method,
  * generic parameter or base type in its class, a generic parameter or parameter of a method in its method.
  *
- * Beside each value stands the number of a refusal; 0 says that there is none, and beside another number all else is 0:
+ * Beside each value stands the number of a refusal; 0 says that there is none, and beside another number all else is 0, but for the
+ * reason, which says why a string is missing:
  *
  *     1  the tables stream has fewer than 24 bytes
  *     2  fewer than 4 bytes for each set bit of the valid mask follow the header
  *     3  some table has more than 15,000 rows
  *     4  the class, method, generic parameter, base type or parameter asked for is not in the record; or there is no such question
- *     5  the name asked for is missing
+ *     5  the name asked for is missing; for the name of a class, a method or a generic parameter the reason says why
  *     6  the name is longer than its buffer; how long it is is not told, so a caller doubles the buffer and asks again
- *     7  a heap lookup finds nothing
+ *     7  a heap lookup finds nothing; for a string the reason says why
  *
  * A call for a name answers its length. Its bytes then stand at the front of the buffer, and every other byte of the buffer is 0; so is
  * every byte where the call is refused. A name is bytes as they stand in the file: no zero ends it.
@@ -48,7 +49,7 @@ extern "C" {
 #endif
 
 /* The version of this interface, and that of the archive. What changes a signature, a struct or DN_LONGEST_LINE raises both. */
-#define DN_VERSION 2u
+#define DN_VERSION 3u
 uint32_t dn_version(void);
 
 /* What a refusal's number means. */
@@ -62,6 +63,9 @@ enum {
     DN_BUFFER_TOO_SMALL = 6,
     DN_NOT_FOUND = 7
 };
+
+/* Why a string is missing: beside 7 of a string and 5 of a class, method or generic name; else 0. */
+enum { DN_NO_REASON = 0, DN_NULL_INDEX = 1, DN_PAST_END = 2, DN_NO_ZERO = 3 };
 
 /* The heap that a lookup means. */
 enum { DN_STRINGS = 0, DN_BLOBS = 1 };
@@ -106,6 +110,7 @@ typedef struct dn_streams {
 typedef struct dn_reply {
     size_t value;
     size_t refusal;
+    size_t reason;
 } dn_reply;
 
 /* Where a table begins in the tables stream, the bytes of its rows and how many rows are whole. */
@@ -120,6 +125,7 @@ typedef struct dn_part {
     size_t start;
     size_t len;
     size_t refusal;
+    size_t reason;
 } dn_part;
 
 /* Where a listing goes on: what the next line is about, and the class, the method and the item in these. All 0 is the beginning. */

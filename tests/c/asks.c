@@ -50,7 +50,7 @@ static struct buffer full(uint8_t *at, size_t room, int byte) {
 
 /* ---- questions */
 
-static int same(dn_reply a, dn_reply b) { return a.value == b.value && a.refusal == b.refusal; }
+static int same(dn_reply a, dn_reply b) { return a.value == b.value && a.refusal == b.refusal && a.reason == b.reason; }
 
 /* Whether that reply and what it left in `other` are as expected in `buf`. */
 static int as_expected(dn_reply reply, dn_reply expected, size_t room) {
@@ -94,7 +94,7 @@ static void check_refused(uint32_t question, int is_name) {
     static const uint32_t rows[3];
     in.options = 0;
     size_t refusal = calls[CLASS_COUNT].ask(&in, rows, full(buf, 0, 0)).refusal;
-    dn_reply expected = {0, refusal ? refusal : DN_NO_SUCH_ROW};
+    dn_reply expected = {0, refusal ? refusal : DN_NO_SUCH_ROW, 0};
     for (size_t i = 0; i < COUNT(words); i++)
         for (size_t k = 0; k < (is_name ? COUNT(rooms) : 1); k++) {
             in.options = words[i];

@@ -47,26 +47,36 @@ static bytes read_hex(const char *text) {
     return out;
 }
 
-/* Whether a name, or the refusal of one, is answered right in a buffer of that length. */
-static int room_agrees(const char *call, const uint32_t *numbers, size_t refusal, bytes name, size_t room) {
+static int same(dn_reply a, dn_reply b) { return a.value == b.value && a.refusal == b.refusal && a.reason == b.reason; }
+
+/* The reply that an answer says: a number, or `!` and a refusal, with a point and the reason behind it where one is told. */
+static dn_reply reply_in(const char *answer) {
+    char *end;
+    if (*answer != '!') return (dn_reply){strtoul(answer, NULL, 10), 0, 0};
+    size_t refusal = strtoul(answer + 1, &end, 10);
+    return (dn_reply){0, refusal, *end == '.' ? strtoul(end + 1, NULL, 10) : 0};
+}
+
+/* Whether a name is answered right in a buffer of that length, or refused so. */
+static int room_agrees(const char *call, const uint32_t *numbers, dn_reply refused, bytes name, size_t room) {
     uint8_t *buf = malloc(room + 1);
-    dn_reply reply;
+    dn_reply reply, expected = room < name.len ? (dn_reply){0, DN_BUFFER_TOO_SMALL, 0} : (dn_reply){name.len, 0, 0};
     if (!buf) exit(2);
     memset(buf, 0xAA, room + 1);
-    if (!refusal && room < name.len) refusal = DN_BUFFER_TOO_SMALL;
-    size_t written = refusal ? 0 : name.len;
-    int well = ask(call, numbers, buf, room, &reply) && reply.refusal == refusal && reply.value == written
-        && !memcmp(buf, name.at, written) && zero_from(buf, written, room) && buf[room] == 0xAA;
+    if (refused.refusal) expected = refused;
+    int well = ask(call, numbers, buf, room, &reply) && same(reply, expected) && !memcmp(buf, name.at, expected.value)
+        && zero_from(buf, expected.value, room) && buf[room] == 0xAA;
     free(buf);
     return well;
 }
 
-static int name_agrees(const char *call, const uint32_t *numbers, size_t refusal, const char *answer) {
-    bytes name = read_hex(refusal ? "" : answer);
+static int name_agrees(const char *call, const uint32_t *numbers, const char *answer) {
+    dn_reply refused = *answer == '!' ? reply_in(answer) : (dn_reply){0, 0, 0};
+    bytes name = read_hex(refused.refusal ? "" : answer);
     size_t few = name.len < 64 ? name.len : 2;
     int well = 1;
-    for (size_t room = 0; room < few; room++) well &= room_agrees(call, numbers, refusal, name, room);
-    for (size_t room = name.len < 2 ? 0 : name.len - 1; room <= name.len + 2; room++) well &= room_agrees(call, numbers, refusal, name, room);
+    for (size_t room = 0; room < few; room++) well &= room_agrees(call, numbers, refused, name, room);
+    for (size_t room = name.len < 2 ? 0 : name.len - 1; room <= name.len + 2; room++) well &= room_agrees(call, numbers, refused, name, room);
     free(name.at);
     return well;
 }
@@ -85,23 +95,21 @@ static question question_in(const char *line) {
     return q;
 }
 
-/* `CALL NUMBERS = ANSWER`; an answer is a number, a name in hex, or `!` and a refusal. */
+/* `CALL NUMBERS = ANSWER`; an answer is a number, a name in hex, or a refusal. */
 static int answer_agrees(const char *line) {
     question q = question_in(line);
     const char *answer = strchr(line, '=');
     dn_reply reply;
     answer += answer[1] == ' ' ? 2 : 1;
-    size_t refusal = *answer == '!' ? strtoul(answer + 1, NULL, 10) : 0;
-    if (strstr(q.call, "_name") || strstr(q.call, "_type")) return name_agrees(q.call, q.numbers, refusal, answer);
-    size_t value = refusal ? 0 : strtoul(answer, NULL, 10);
-    return ask(q.call, q.numbers, NULL, 0, &reply) && reply.value == value && reply.refusal == refusal;
+    if (strstr(q.call, "_name") || strstr(q.call, "_type")) return name_agrees(q.call, q.numbers, answer);
+    return ask(q.call, q.numbers, NULL, 0, &reply) && same(reply, reply_in(answer));
 }
 
 /* The reply where what `empty` names has length 0 and is at `spot`: bit 0 the tables, 1 the strings, 2 the blob, 3 the buffer. */
 static dn_reply ask_with_empty(const question *q, unsigned empty, uint8_t *spot) {
     bytes kept[] = {tables, strings, blob}, none = {spot, 0};
     uint8_t room[16];
-    dn_reply reply = {0, 0};
+    dn_reply reply = {0, 0, 0};
     if (empty & 1) tables = none;
     if (empty & 2) strings = none;
     if (empty & 4) blob = none;
@@ -117,7 +125,7 @@ static int nulls_agree(const char *line) {
     uint8_t spot = 0xAA;
     for (unsigned empty = 1; empty < 16; empty++) {
         dn_reply by_null = ask_with_empty(&q, empty, NULL), by_spot = ask_with_empty(&q, empty, &spot);
-        if (by_null.value != by_spot.value || by_null.refusal != by_spot.refusal || spot != 0xAA) return 0;
+        if (!same(by_null, by_spot) || spot != 0xAA) return 0;
     }
     return 1;
 }
@@ -164,12 +172,12 @@ static int walk_agrees(const walk *w, const char *text) {
     size_t kind, start, size, rows, number;
     int used;
     dn_reply stop = w->stop(tables.at, tables.len, 0);
-    if (sscanf(text, "refused=%zu", &number) == 1) return stop.refusal == number && !stop.value && no_extent_from(w, 0);
+    if (sscanf(text, "refused=%zu", &number) == 1) return stop.refusal == number && !stop.value && !stop.reason && no_extent_from(w, 0);
     for (uint32_t k = 0; k < KINDS; k++, text += used) {
         if (sscanf(text, "%zu %zu %zu %zu %n", &kind, &start, &size, &rows, &used) != 4) return 0;
         if (kind != k || !extent_is(w, k, start, size, rows)) return 0;
     }
-    return sscanf(text, "stop=%zu", &number) == 1 && stop.value == number && !stop.refusal && no_extent_from(w, KINDS);
+    return sscanf(text, "stop=%zu", &number) == 1 && stop.value == number && !stop.refusal && !stop.reason && no_extent_from(w, KINDS);
 }
 
 /* Inputs that are no bundle, refusal 8, never reach the library. */
@@ -192,14 +200,20 @@ static void replay_walks(bytes file) {
     }
 }
 
+static int not_found(dn_part part, size_t reason) {
+    return !part.start && !part.len && part.refusal == DN_NOT_FOUND && part.reason == reason;
+}
+
 static void lookups(void) {
+    static const size_t reasons[] = {DN_NULL_INDEX, DN_NO_REASON, DN_NO_REASON, DN_NO_ZERO, DN_PAST_END, DN_PAST_END};
     uint8_t text[] = {0, 'A', 0, 'B'}, parts[] = {2, 7, 8};
-    dn_part a = dn_lookup(text, 4, parts, 3, DN_STRINGS, 1), none = dn_lookup(text, 4, parts, 3, DN_STRINGS, 3);
-    dn_part b = dn_lookup(text, 4, parts, 3, DN_BLOBS, 0), other = dn_lookup(text, 4, parts, 3, 2, 1);
-    tally(a.start == 1 && a.len == 1 && !a.refusal, "a string");
-    tally(!none.start && !none.len && none.refusal == DN_NOT_FOUND, "a string that no zero ends");
-    tally(b.start == 1 && b.len == 2 && !b.refusal, "a blob");
-    tally(!other.start && !other.len && other.refusal == DN_NOT_FOUND, "a heap that there is not");
+    dn_part a = dn_lookup(text, 4, parts, 3, DN_STRINGS, 1), b = dn_lookup(text, 4, parts, 3, DN_BLOBS, 0);
+    tally(a.start == 1 && a.len == 1 && !a.refusal && !a.reason, "a string");
+    tally(b.start == 1 && b.len == 2 && !b.refusal && !b.reason, "a blob");
+    for (uint32_t i = 0; i < 6; i++)
+        if (reasons[i]) tally(not_found(dn_lookup(text, 4, parts, 3, DN_STRINGS, i), reasons[i]), "why a string is missing");
+    tally(not_found(dn_lookup(text, 4, parts, 3, DN_BLOBS, 3), DN_NO_REASON), "a blob past the end");
+    tally(not_found(dn_lookup(text, 4, parts, 3, 2, 1), DN_NO_REASON), "a heap that there is not");
 }
 
 /* What takes no class: by null pointers of length 0 there is nothing. */
@@ -207,12 +221,12 @@ static void nulls(void) {
     for (int i = 0; i < WALKS; i++) {
         dn_reply stop = walks[i].stop(NULL, 0, 0);
         dn_extent extent = walks[i].extent(NULL, 0, 0, 2);
-        tally(!stop.value && stop.refusal == DN_SHORT_HEADER, "the walk of a null pointer");
+        tally(!stop.value && stop.refusal == DN_SHORT_HEADER && !stop.reason, "the walk of a null pointer");
         tally(!extent.start && !extent.size && !extent.rows, "an extent of a null pointer");
     }
     for (uint32_t which = DN_STRINGS; which <= DN_BLOBS; which++) {
-        dn_part part = dn_lookup(NULL, 0, NULL, 0, which, 0);
-        tally(!part.start && !part.len && part.refusal == DN_NOT_FOUND, "a heap that is a null pointer");
+        size_t reason = which == DN_STRINGS ? DN_NULL_INDEX : DN_NO_REASON;
+        tally(not_found(dn_lookup(NULL, 0, NULL, 0, which, 0), reason), "a heap that is a null pointer");
     }
 }
 

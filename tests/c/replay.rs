@@ -12,6 +12,7 @@ use std::{env, fs, process};
 struct DnReply {
     value: usize,
     refusal: usize,
+    reason: usize,
 }
 
 /// The options that say nothing.
@@ -59,22 +60,29 @@ fn from_hex(text: &str) -> Vec<u8> {
     text.as_bytes().chunks_exact(2).map(|two| u8::from_str_radix(std::str::from_utf8(two).unwrap(), 16).unwrap()).collect()
 }
 
+/// The number and the reason of a refusal, `!5.2` or `!5`; 0 and 0 where nothing is refused.
+fn refusal_in(answer: &str) -> (usize, usize) {
+    let Some(said) = answer.strip_prefix('!') else { return (0, 0) };
+    let (number, reason) = said.split_once('.').unwrap_or((said, "0"));
+    (number.parse().unwrap(), reason.parse().unwrap())
+}
+
 fn agrees(line: &str, streams: &[Vec<u8>; 3]) -> bool {
     let (asked, answer) = line.split_once('=').unwrap();
     let (mut words, answer) = (asked.split_whitespace(), answer.trim());
     let call = words.next().unwrap();
     let numbers: Vec<u32> = words.map(|n| n.parse().unwrap()).collect();
-    let refusal = answer.strip_prefix('!').map_or(0, |n| n.parse().unwrap());
+    let (refusal, reason) = refusal_in(answer);
     if !call.ends_with("_name") && !call.ends_with("_type") {
         let value = if refusal == 0 { answer.parse().unwrap() } else { 0 };
-        return ask(call, streams, &numbers, &mut []) == Some(DnReply { value, refusal });
+        return ask(call, streams, &numbers, &mut []) == Some(DnReply { value, refusal, reason });
     }
     let name = if refusal == 0 { from_hex(answer) } else { Vec::new() };
     (0..2).all(|more| {
         let mut buf = vec![0xAA; name.len() + more];
         let mut expected = name.clone();
         expected.resize(buf.len(), 0);
-        ask(call, streams, &numbers, &mut buf) == Some(DnReply { value: name.len(), refusal }) && buf == expected
+        ask(call, streams, &numbers, &mut buf) == Some(DnReply { value: name.len(), refusal, reason }) && buf == expected
     })
 }
 

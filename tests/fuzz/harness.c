@@ -119,10 +119,18 @@ static void catch_signals(void) {
 
 static void begin(struct current next) { current = next, asked++, ticks = 0, armed = 1; }
 
+/* A reason, one of three, stands beside 5 of a class, method or generic name, and beside nothing else. */
+static int reason_fits(int call, dn_reply reply) {
+    int told = call == CLASS_NAME || call == GENERIC_NAME || call == METHOD_NAME || call == METHOD_GENERIC_NAME;
+    if (told && reply.refusal == DN_NO_NAME) return DN_NULL_INDEX <= reply.reason && reply.reason <= DN_NO_ZERO;
+    return reply.reason == DN_NO_REASON;
+}
+
 static dn_reply ask(int call, const uint32_t *r, struct buffer buffer) {
     begin((struct current){ calls[call].name, { r[0], r[1], r[2], 0 }, buffer.length, 0 });
     dn_reply reply = calls[call].ask(&input, r, buffer);
     armed = 0;
+    if (!reason_fits(call, reply)) report("a reason that does not belong there, or none where one does");
     return reply;
 }
 
@@ -164,7 +172,7 @@ static dn_reply ask_name(int call, const uint32_t *rows, size_t length, int fill
     return reply;
 }
 
-static int same(dn_reply a, dn_reply b) { return a.refusal == b.refusal && a.value == b.value; }
+static int same(dn_reply a, dn_reply b) { return a.refusal == b.refusal && a.value == b.value && a.reason == b.reason; }
 
 static uint8_t seen[ROOM]; /* what a buffer had after a call */
 
@@ -417,7 +425,7 @@ static void check_any_question(size_t refusal) {
     uint32_t rows[3] = { number_near(2), number_near(2), number_near(2) };
     int is_name = (int)below(2), call = call_of(question, is_name);
     size_t length = is_name ? some_length() : 0;
-    dn_reply expected = { 0, refusal ? refusal : DN_NO_SUCH_ROW };
+    dn_reply expected = { 0, refusal ? refusal : DN_NO_SUCH_ROW, 0 };
     memset(seen, 0, length);
     if (call < CALLS) {
         expected = ask(call, rows, buffer_of(length, 0xAA));

@@ -404,7 +404,25 @@ def document_cases():
                 "01000000 0500 0300 0000 0100 0000", bytes.fromhex("00 41 00 4E 00 4C 60 31 00"))
 
 
+def cut_strings(n):
+    return lambda made, tables, strings, blob: (tables, strings[:n], blob)
+
+
+def reason_cases():
+    """The strings cut at every place, so that each name in turn does not end and then lies past the end; and document 01's whole case, with
+    reasons 2, 3 and 1."""
+    given = {"types": [A, plain(b"B`1", None, 2)], "methods": [(1, b"f"), (2, b"g"), (3, None)], "nested": [(3, 2)],
+             "generics": [(4, b"T"), (6, b"U"), (6, None), (5, b"X"), (3, b"Y")]}
+    for n in range(len(Case("", **given).streams()[1])):
+        yield Case("strings cut to %d bytes" % n, **given, edit=cut_strings(n))
+    (whole,) = document_cases()
+    tables, strings, _ = whole.streams()
+    yield Bytes(whole.name + ", strings cut to 5 bytes", tables, strings[:5])
+    yield Bytes(whole.name + ", strings cut to 6 bytes", tables, strings[:6])
+    yield Bytes(whole.name + ", no name", tables[:-10] + bytes(2) + tables[-8:], strings)
+
+
 def all_cases():
     for cases in (document_cases, name_cases, nested_cases, generic_cases, method_cases, cut_cases, heap_cases, base_cases, type_cases,
-                  signature_cases, pairing_cases, wide_cases, refused_cases):
+                  signature_cases, pairing_cases, wide_cases, refused_cases, reason_cases):
         yield from cases()

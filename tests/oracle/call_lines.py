@@ -4,13 +4,15 @@ import os
 import sys
 
 from asking import SECONDS, Oracle, streams
-from assembly import METHOD_DEF, TYPE_DEF, bundle
+from assembly import GENERIC_PARAM, METHOD_DEF, TYPE_DEF, bundle
 
 # A longer name is left out: the program's buffer has two bytes more.
 LONGEST = 16382
 # Of a longer list than twice that, only so many from either end are asked for.
 ENDS = 24
 NO_ROW, NAMELESS = "!4", "!5"
+NULL_INDEX, PAST_END, NO_ZERO = ".1", ".2", ".3"  # why a string is missing
+NAME_PLACES = {TYPE_DEF: 4, METHOD_DEF: 8, GENERIC_PARAM: 6}  # in a row, of the Name column
 LAST = 0xFFFFFFFF
 
 
@@ -49,6 +51,51 @@ def lowered(tables, extents):
         column = int.from_bytes(tables[end - 2:end], "little")
         tables[end - 2:end] = min(column, methods + 1).to_bytes(2, "little")
     return bytes(tables)
+
+
+def with_names(tables, extents):
+    """The tables with 1 for each Name column of a class, method or generic parameter that is 0."""
+    size_of_index = 4 if tables[6] & 1 else 2
+    tables = bytearray(tables)
+    for kind, place in NAME_PLACES.items():
+        _, start, size, rows = map(int, extents.decode().splitlines()[kind].split())
+        for at in range(start + place, start + place + size * rows, size or 1):
+            if not any(tables[at:at + size_of_index]):
+                tables[at] = 1
+    return bytes(tables)
+
+
+def told_reasons(records, case, classes):
+    """The classes, with the reason behind each missing name of a class, a method or a generic parameter. The Rust tells none, so it is
+    asked three times more. A string that no zero byte closes is there once the heap's last byte is zero. One whose index is 0 is missing
+    in a heap where index 1 has a string, and there once each such index is 1. What else is missing lies past the end."""
+    if NAMELESS not in names_of(classes):
+        return classes
+    tables, strings, blob = streams(case)
+    filled = with_names(tables, records.walker.ask(case))
+    others = [(tables, strings[:-1] + bytes(len(strings[-1:])), blob), (tables, b"\0X\0", blob), (filled, b"\0X\0", blob)]
+    closed, plain, patched = (names_of(read_record(records.ask(bundle(*three)))[1]) for three in others)
+
+    def tell(name):
+        closes, is_there, gets_there = (next(names) != NAMELESS for names in (closed, plain, patched))
+        reason = NO_ZERO if closes else NULL_INDEX if gets_there and not is_there else PAST_END
+        return name + reason if name == NAMELESS else name
+
+    return [with_each_name(one, tell) for one in classes]
+
+
+def names_of(classes):
+    """The names of classes, methods and generic parameters, in the order of with_each_name."""
+    found = []
+    for one in classes:
+        with_each_name(one, lambda name: found.append(name) or name)
+    return iter(found)
+
+
+def with_each_name(one, tell):
+    """A class with its names told anew."""
+    methods = [{**m, "name": tell(m["name"]), "generics": [tell(name) for name in m["generics"]]} for m in one["methods"]]
+    return {**one, "name": tell(one["name"]), "generics": [tell(name) for name in one["generics"]], "methods": methods}
 
 
 def name_of(present, digits):
@@ -148,10 +195,11 @@ def of_class(c, found, thorough):
     yield from of_missing_method(c, past) if thorough else [line("method_name", (c, past), NO_ROW)]
 
 
-def answers(record, thorough):
+def answers(records, case, record, thorough):
     """A line for each answer of the record but those that are too long or in the middle of a long list, and for some that are refused:
     just past each end, and, if it is to be thorough, by every call there and at the largest numbers."""
     refusal, classes = read_record(record)
+    classes = told_reasons(records, case, classes)
     if refusal:
         yield line("class_count", (), "!%d" % refusal)
         yield from of_missing_class(0, "!%d" % refusal)

@@ -85,7 +85,7 @@ pub fn name_line(
                 known: after,
             }
         }
-        Told::Missing => {
+        Told::Missing(_) => {
             let e = lines::end_missing(out, start);
             Onward {
                 step: Step { next: more, at: e },

@@ -13,6 +13,7 @@ use Rattle.buffers.specs.Writes.{Kept, Wrote, Said}
 use Rattle.buffers.specs.Replies.{Answer, refusedBy, value, nameOr5, held, Named}
 use Rattle.buffers.specs.Telling.{ToldIs, name, missing, no-row}
 use Rattle.buffers.specs.declared.Refusal.the-variants.{NoSuchRow, NoName}
+use Rattle.buffers.specs.declared.Reason.{Reason}
 use Rattle.buffers.specs.declared.Reason.the-variants.{Untold}
 use Rattle.buffers.specs.declared.Reply.{Reply}
 use Rattle.buffers.specs.declared.Told.{Told}
@@ -30,7 +31,7 @@ module _ {a : Answer Text} {b b′ : List ℕ} {at : ℕ} where
   pub told-name : {at′ : ℕ} → ToldIs a b at b′ (Name at′) → NameTold a b at b′ at′
   told-name (name t e w) = record { text = t; is = e; wrote = w }
 
-  pub told-missing : ToldIs a b at b′ Missing → (a ≡ refusedBy (NoName Untold)) × Kept b at b′
+  pub told-missing : {why : Reason} → ToldIs a b at b′ (Missing why) → (a ≡ refusedBy (NoName why)) × Kept b at b′
   told-missing (missing e k) = (e, k)
 
   pub told-no-row : ToldIs a b at b′ NoRow → (a ≡ refusedBy NoSuchRow) × Kept b at b′
@@ -46,7 +47,7 @@ module _ {o : Option Text} {b b′ : List ℕ} {at : ℕ} where
   pub told-some : {at′ : ℕ} → Said b at b′ o (some at′) → ToldIs (nameOr5 o) b at b′ (Name at′)
   told-some s = let there = said-some s in name (there .text) (ap nameOr5 (there .is)) (there .wrote)
 
-  pub told-none : Said b at b′ o none → ToldIs (nameOr5 o) b at b′ Missing
+  pub told-none : Said b at b′ o none → ToldIs (nameOr5 o) b at b′ (Missing Untold)
   told-none s = let gone = said-none s in missing (ap nameOr5 (gone .0)) (gone .1)
 
 -- A call is ended by what its answer came to at the buffer's start.
@@ -54,7 +55,7 @@ module _ {a : Answer Text} {b b₁ b₂ : List ℕ} {r : Reply} where
   pub ends-name : {at : ℕ} → ToldIs a b 0 b₁ (Name at) → Named (held b₁ at) b₁ r b₂ → Named a b r b₂
   ends-name (name t e w) n = rw e (named-text w n)
 
-  pub ends-missing : ToldIs a b 0 b₁ Missing → Named (refusedBy (NoName Untold)) b₁ r b₂ → Named a b r b₂
+  pub ends-missing : {why : Reason} → ToldIs a b 0 b₁ (Missing why) → Named (refusedBy (NoName why)) b₁ r b₂ → Named a b r b₂
   ends-missing (missing e k) n = rw e (named-length (k .long) n)
 
   pub ends-no-row : ToldIs a b 0 b₁ NoRow → Named (refusedBy NoSuchRow) b₁ r b₂ → Named a b r b₂

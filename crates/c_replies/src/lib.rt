@@ -1,5 +1,6 @@
 // The answers of the calls as C takes them: structs of numbers, since no enum crosses to C. A refusal is its number in document 01, and
-// 0 says that there is none; beside a refusal all else is 0.
+// 0 says that there is none; beside a refusal all else is 0, but for the reason. That says why a string is missing, beside 7 of a string
+// and 5 of a class, method or generic name; else it is 0.
 use buffers::Reason;
 use buffers::Refusal;
 use buffers::Reply;
@@ -15,6 +16,7 @@ ghost use Rattle.c_replies.specs.Told.{theVersion, told, noPart, toldPar
 pub struct DnReply {
     pub value: usize,
     pub refusal: usize,
+    pub reason: usize,
 }
 
 // Where in its heap the bytes of a lookup are, or why there are none.
@@ -23,6 +25,7 @@ pub struct DnPart {
     pub start: usize,
     pub len: usize,
     pub refusal: usize,
+    pub reason: usize,
 }
 
 // Where a table begins in the stream, its row size and its whole rows.
@@ -34,7 +37,7 @@ pub struct DnExtent {
 }
 
 // The version of the interface, DN_VERSION in the header.
-const VERSION: u32 = 2;
+const VERSION: u32 = 3;
 
 pub fn version() -> u32
     ensures { λ r. ⌜ r ≡ theVersion ⌝ }
@@ -46,10 +49,15 @@ pub fn reply_of(reply: Reply) -> DnReply
     ensures { λ r. ⌜ r ≡ told (replySays reply) ⌝ }
 {
     match reply {
-        Reply::Is(value) => DnReply { value, refusal: 0 },
+        Reply::Is(value) => DnReply {
+            value,
+            refusal: 0,
+            reason: 0,
+        },
         Reply::No(why) => DnReply {
             value: 0,
             refusal: buffers::refusal_number(why) as usize,
+            reason: buffers::reason_number(why) as usize,
         },
     }
 }
@@ -62,14 +70,16 @@ pub fn stop_of(walk: Extents) -> DnReply
     reply_of(answer)
 }
 
-// A lookup that finds nothing.
-pub fn no_part() -> DnPart
-    ensures { λ r. ⌜ r ≡ noPart ⌝ }
+// A lookup that finds nothing, and why.
+pub fn no_part(reason: Reason) -> DnPart
+    ensures { λ r. ⌜ r ≡ noPart reason ⌝ }
 {
+    let no = Refusal::NotFound(reason);
     DnPart {
         start: 0,
         len: 0,
-        refusal: buffers::refusal_number(Refusal::NotFound(Reason::Untold)) as usize,
+        refusal: buffers::refusal_number(no) as usize,
+        reason: buffers::reason_number(no) as usize,
     }
 }
 
@@ -81,8 +91,9 @@ pub fn part_of(part: Part) -> DnPart
             start,
             len,
             refusal: 0,
+            reason: 0,
         },
-        Part::Absent(_) => no_part(),
+        Part::Absent(why) => no_part(why),
     }
 }
 

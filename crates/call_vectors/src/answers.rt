@@ -1,9 +1,11 @@
-// One recorded answer, `CALL NUMBERS = ANSWER`: the call is asked, and all that it hands back compared. The answer is a number, a name
-// in hex, or `!` and the number of a refusal. A name is asked for with buffers of every length up to two more than its own, a name
-// that is refused with those of up to four bytes; of a name of more than 64 bytes the lengths up to 8 and those from four less than its
-// own are tried. Each length is tried with a buffer that holds 0x00 before, one that holds 0xAA and one that holds 0xFF.
+// One recorded answer, `CALL NUMBERS = ANSWER`: the call is asked, and all that it hands back compared. The answer is a number, a name in
+// hex, or `!` and the number of a refusal, with a point and the reason behind it where that is not 0. A name is asked for with buffers of
+// every length up to two more than its own, a name that is refused with those of up to four bytes; of a name of more than 64 bytes the
+// lengths up to 8 and those from four less than its own are tried. Each length is tried with a buffer that holds 0x00 before, one that
+// holds 0xAA and one that holds 0xFF.
 use buffers::Refusal;
 use buffers::Reply;
+use buffers::reason_number;
 use buffers::refusal_number;
 use case_text::after;
 use case_text::first;
@@ -18,6 +20,12 @@ struct Asked {
     class: ClassNumber,
     member: u32,
     part: u32,
+}
+
+// The number and the reason of a refusal; both are 0 where nothing is refused.
+struct Refused {
+    number: usize,
+    reason: usize,
 }
 
 pub fn agrees(line: &[u8], tables: &[u8], strings: &[u8], blob: &[u8]) -> bool {
@@ -156,27 +164,45 @@ fn ask_method_name(
     Reply::No(Refusal::BadInput)
 }
 
-// The refusal that an answer holds, or 0.
-fn refusal_in(answer: &[u8]) -> usize {
+fn not_refused() -> Refused {
+    Refused {
+        number: 0,
+        reason: 0,
+    }
+}
+
+// The refusal that an answer holds, `!5` or `!5.2`.
+fn refusal_in(answer: &[u8]) -> Refused {
     if answer.len() == 0 {
-        return 0;
+        return not_refused();
     }
     if answer[0] != b'!' {
-        return 0;
+        return not_refused();
     }
-    read_decimal(answer)
+    let point = heaps::find_byte(answer, 0, b'.');
+    Refused {
+        number: read_decimal(numbers::cut(answer, 0, point)),
+        reason: read_decimal(after(answer, point)),
+    }
+}
+
+fn is_refused(why: Refusal, expected: Refused) -> bool {
+    if (refusal_number(why) as usize) != expected.number {
+        return false;
+    }
+    (reason_number(why) as usize) == expected.reason
 }
 
 fn number_agrees(came: Reply, answer: &[u8]) -> bool {
-    let refusal = refusal_in(answer);
+    let expected = refusal_in(answer);
     match came {
         Reply::Is(n) => {
-            if refusal != 0 {
+            if expected.number != 0 {
                 return false;
             }
             n == read_decimal(answer)
         }
-        Reply::No(why) => (refusal_number(why) as usize) == refusal,
+        Reply::No(why) => is_refused(why, expected),
     }
 }
 
@@ -189,13 +215,22 @@ fn name_agrees(
     answer: &[u8],
 ) -> bool {
     let refusal = refusal_in(answer);
-    if refusal != 0 {
+    if refusal.number != 0 {
         return rooms_agree(call, tables, strings, blob, asked, refusal, b"", 4);
     }
     let mut space = [0u8; 16384];
     let n = case_text::read_hex(answer, &mut space);
     let name = numbers::cut(&space, 0, n);
-    rooms_agree(call, tables, strings, blob, asked, 0, name, name.len() + 2)
+    rooms_agree(
+        call,
+        tables,
+        strings,
+        blob,
+        asked,
+        refusal,
+        name,
+        name.len() + 2,
+    )
 }
 
 // Whether a name, or the refusal of one, is answered right in buffers of up to so many bytes.
@@ -205,7 +240,7 @@ fn rooms_agree(
     strings: &[u8],
     blob: &[u8],
     asked: Asked,
-    refusal: usize,
+    refusal: Refused,
     name: &[u8],
     last: usize,
 ) -> bool {
@@ -228,7 +263,7 @@ fn room_agrees(
     strings: &[u8],
     blob: &[u8],
     asked: Asked,
-    refusal: usize,
+    refusal: Refused,
     name: &[u8],
     room: usize,
 ) -> bool {
@@ -286,7 +321,7 @@ fn fill_agrees(
     strings: &[u8],
     blob: &[u8],
     asked: Asked,
-    refusal: usize,
+    refusal: Refused,
     name: &[u8],
     room: usize,
     fill: u8,
@@ -311,11 +346,11 @@ fn ask_in(
     ask_name(call, tables, strings, blob, asked, &mut buffer[..room])
 }
 
-fn reply_agrees(came: Reply, refusal: usize, name: &[u8], buffer: &[u8]) -> bool {
+fn reply_agrees(came: Reply, refusal: Refused, name: &[u8], buffer: &[u8]) -> bool {
     let expected = refusal_in_room(refusal, name, buffer.len());
     match came {
         Reply::Is(n) => {
-            if expected != 0 {
+            if expected.number != 0 {
                 return false;
             }
             if n != name.len() {
@@ -323,19 +358,22 @@ fn reply_agrees(came: Reply, refusal: usize, name: &[u8], buffer: &[u8]) -> bool
             }
             same(numbers::cut(buffer, 0, n), name) && is_zero_from(buffer, n)
         }
-        Reply::No(why) => (refusal_number(why) as usize) == expected && is_zero_from(buffer, 0),
+        Reply::No(why) => is_refused(why, expected) && is_zero_from(buffer, 0),
     }
 }
 
 // 6 where a name exists and has no room.
-fn refusal_in_room(refusal: usize, name: &[u8], room: usize) -> usize {
-    if refusal != 0 {
+fn refusal_in_room(refusal: Refused, name: &[u8], room: usize) -> Refused {
+    if refusal.number != 0 {
         return refusal;
     }
     if room < name.len() {
-        return 6;
+        return Refused {
+            number: 6,
+            reason: 0,
+        };
     }
-    0
+    refusal
 }
 
 fn is_zero_from(buffer: &[u8], from: usize) -> bool {

@@ -39,7 +39,7 @@ pub fn class_flags_of(tables: &[u8], layout: &[u32], class: ClassNumber) -> Repl
     }
 }
 
-// What the answer for the full name of a class comes to at a place.
+// What the answer for the full name of a class comes to at a place. Where it is missing, its own name is.
 pub fn tell_class_name(
     buf: &mut [u8],
     at: usize,
@@ -54,9 +54,19 @@ pub fn tell_class_name(
         (now (buf .entry)) at (now (buf .exit)) r) ⌝ }
 {
     match places::class_row(layout, class) {
-        ClassRow::Row(row) => {
-            buffers::told_by(names::push_class_name(buf, at, tables, strings, layout, row))
-        }
+        ClassRow::Row(row) => match names::push_class_name(buf, at, tables, strings, layout, row) {
+            Place::Next(end) => Told::Name(end),
+            Place::Missing => {
+                let i = row.0 - 1;
+                Told::Missing(rows::missing_reason(
+                    tables,
+                    strings,
+                    layout,
+                    columns::TYPE_NAME,
+                    i as usize,
+                ))
+            }
+        },
         ClassRow::NoRow => Told::NoRow,
     }
 }

@@ -37,17 +37,19 @@ pub fn walk_by_table(tables: &[u8], options: Options) -> Extents
     walks::walk_by_table(tables, options)
 }
 
-// The raw lookup: the very part of the heap that is meant, and 0 in `refusal`; or an empty part of it, and refusal 7.
+// The raw lookup: the very part of the heap that is meant, and 0 in `refusal`; or an empty part of it, and refusal 7. In `reason` stands
+// why a string is missing, else 0.
 pub fn lookup<'a>(
     strings: &'a [u8],
     blobs: &'a [u8],
     heap: Heap,
     index: u32,
     refusal: &mut u8,
+    reason: &mut u8,
 ) -> &'a [u8]
-    ensures { λ r. ⌜ Looked r (strings .entry) (blobs .entry) heap index (now (refusal .exit)) ⌝ }
+    ensures { λ r. ⌜ Looked r (strings .entry) (blobs .entry) heap index (now (refusal .exit)) (now (reason .exit)) ⌝ }
 {
-    heaps::lookup(strings, blobs, heap, index, refusal)
+    heaps::lookup(strings, blobs, heap, index, refusal, reason)
 }
 
 // How many classes there are.

@@ -1,6 +1,7 @@
 // The library for C: each public call of `dotnet`, any call by the number of its question, and the listing by pieces, as
 // include/dotnet_tables.h declares them. The options are a set of bits, the numbers of classes, methods, generics, base types and
 // parameters are plain, and every answer is a struct of numbers.
+use buffers::Reason;
 use c_listing::DnCursor;
 use c_listing::DnPiece;
 use c_questions::options_of;
@@ -69,7 +70,7 @@ pub extern "C" fn dn_lookup(strings: &[u8], blobs: &[u8], which: u32, index: u32
     if which == 1 {
         return c_replies::part_of(heaps::get_blob(blobs, index as usize));
     }
-    c_replies::no_part()
+    c_replies::no_part(Reason::Untold)
 }
 
 // How many classes there are.

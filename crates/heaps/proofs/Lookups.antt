@@ -13,9 +13,10 @@ use Rattle.numbers.specs.Reading.{Res, someAt, noneAt}
 use Rattle.numbers.specs.Compressed.{uint}
 use Rattle.numbers.specs.Parts.{part}
 use Rattle.numbers.proofs.Pick.{pick-lt, pick-le, pick-eq}
+use Rattle.buffers.specs.Replies.{reasonCode}
 use Rattle.buffers.specs.declared.Reason.{Reason}
 use Rattle.buffers.specs.declared.Reason.the-variants.{Untold, NullIndex, PastEnd, NoZero}
-use Rattle.heaps.specs.Lookups.{before, stringAt, bytesAt, blobAt, string, Inside}
+use Rattle.heaps.specs.Lookups.{before, stringAt, bytesAt, blobAt, found, missing, name, string, partReason, Inside}
 use Rattle.heaps.specs.declared.Part.{Part}
 use Rattle.heaps.specs.declared.Part.the-variants.{Found, Absent}
 
@@ -103,11 +104,40 @@ string-within s i e = subst⁻¹ (Inside s) e (string-inside s i)
 pub blob-within : (s : List ℕ) (i : ℕ) {start n : ℕ} → Found start n ≡ blobAt s i → start + n ≤ length s
 blob-within s i e = subst⁻¹ (Inside s) e (blob-inside s i)
 
--- The text of a string that was looked up.
+-- The name of a string that was looked up, and its text.
+pub name-found : (s : List ℕ) (i : ℕ) {start n : ℕ} → Found start n ≡ stringAt s i → name s i ≡ found (part s start n)
+unfolding name
+name-found s i e = rw (← e)
+
+pub name-missing : (s : List ℕ) (i : ℕ) {why : Reason} → Absent why ≡ stringAt s i → name s i ≡ missing why
+unfolding name
+name-missing s i e = rw (← e)
+
 pub string-some : (s : List ℕ) (i : ℕ) {start n : ℕ} → Found start n ≡ stringAt s i → string s i ≡ some (part s start n)
 unfolding string
-string-some s i e = rw (← e)
+string-some s i e = rw (name-found s i e)
 
 pub string-none : (s : List ℕ) (i : ℕ) {why : Reason} → Absent why ≡ stringAt s i → string s i ≡ none
 unfolding string
-string-none s i e = rw (← e)
+string-none s i e = rw (name-missing s i e)
+
+-- Why a string is missing is one of the three reasons; a blob tells none.
+abbrev pub Reasoned : Part → Type 0
+Reasoned (Found start n) = Unit
+Reasoned (Absent why) = (1 ≤ reasonCode why) × (reasonCode why ≤ 3)
+
+pub string-reasoned : (s : List ℕ) (i : ℕ) → Reasoned (stringAt s i)
+unfolding stringAt
+string-reasoned s i =
+    pick-eq Reasoned i 0 (λ _. (omega arith, omega arith))
+    (λ _. pick-le Reasoned (length s) i (λ _. (omega arith, omega arith))
+    (λ _. pick-lt Reasoned (i + before 0 (drop i s)) (length s) (λ _. tt) (λ _. (omega arith, omega arith))))
+
+bytes-unreasoned : (s : List ℕ) (o : Option ℕ) (at : ℕ) → partReason (bytesAt s o at) ≡ 0
+unfolding bytesAt
+bytes-unreasoned s none at = refl
+bytes-unreasoned s (some n) at = pick-le (λ (p : Part). partReason p ≡ 0) (at + n) (length s) (λ _. refl) (λ _. refl)
+
+pub blob-unreasoned : (s : List ℕ) (i : ℕ) → partReason (blobAt s i) ≡ 0
+unfolding blobAt
+blob-unreasoned s i = bytes-unreasoned s (uint s i .got) (uint s i .next)

@@ -10,9 +10,10 @@ use lib.ListN.{length, drop}
 use Rattle.numbers.specs.Compressed.{uint}
 use Rattle.numbers.specs.Parts.{part, PartOf}
 use Rattle.buffers.specs.Texts.{Text}
-use Rattle.buffers.specs.Replies.{number}
+use Rattle.buffers.specs.Replies.{number, reason, Answer, value, refusedBy}
+use Rattle.buffers.specs.declared.Reason.{Reason}
 use Rattle.buffers.specs.declared.Reason.the-variants.{Untold, NullIndex, PastEnd, NoZero}
-use Rattle.buffers.specs.declared.Refusal.the-variants.{NotFound}
+use Rattle.buffers.specs.declared.Refusal.the-variants.{NoName, NotFound}
 use Rattle.heaps.specs.declared.Heap.{Heap}
 use Rattle.heaps.specs.declared.Heap.the-variants.{Strings, Blobs}
 use Rattle.heaps.specs.declared.Part.{Part}
@@ -45,17 +46,49 @@ abbrev pub bytesOf : List ℕ → Part → Option (List ℕ)
 bytesOf s (Found start n) = some (part s start n)
 bytesOf s (Absent why) = none
 
+-- A string that was looked up: a text, or missing for a reason.
+pub data Name : Type 0 where
+  found : Text → Name
+  missing : Reason → Name
+
+abbrev pub partName : List ℕ → Part → Name
+partName s (Found start n) = found (part s start n)
+partName s (Absent why) = missing why
+
+unfoldable pub name : List ℕ → ℕ → Name
+name s i = partName s (stringAt s i)
+
+-- Its text, without the reason where it is missing.
+abbrev pub textOf : Name → Option Text
+textOf (found t) = some t
+textOf (missing why) = none
+
 unfoldable pub string : List ℕ → ℕ → Option Text
-string s i = bytesOf s (stringAt s i)
+string s i = textOf (name s i)
+
+-- Why it is missing; no reason is told where it is not.
+abbrev pub reasonOf : Name → Reason
+reasonOf (found t) = Untold
+reasonOf (missing why) = why
+
+-- The answer of a name that may be missing: 5 where it is, and the reason.
+abbrev pub nameOrWhy : Name → Answer Text
+nameOrWhy (found t) = value t
+nameOrWhy (missing why) = refusedBy (NoName why)
 
 unfoldable pub blob : List ℕ → ℕ → Option (List ℕ)
 blob s i = bytesOf s (blobAt s i)
 
--- What each case of a lookup says: 0 where there is something, or the number that says no; and where the part handed back begins and
--- how long it is. Document 01 leaves the part beside a refusal free: it is the empty part at the start of the heap that was meant.
+-- What each case of a lookup says: 0 where there is something, or the number that says no, and the reason beside it; and where the part
+-- handed back begins and how long it is. Document 01 leaves the part beside a refusal free: it is the empty part at the start of the heap
+-- that was meant.
 abbrev pub partNumber : Part → ℕ
 partNumber (Found start n) = 0
 partNumber (Absent why) = number (NotFound why)
+
+abbrev pub partReason : Part → ℕ
+partReason (Found start n) = 0
+partReason (Absent why) = reason (NotFound why)
 
 abbrev pub partStart : Part → ℕ
 partStart (Found start n) = start
@@ -69,12 +102,13 @@ partLength (Absent why) = 0
 abbrev pub Inside : List ℕ → Part → Type 0
 Inside s p = partStart p + partLength p ≤ length s
 
--- r is the very part of s that p says, and the number told is p's.
-pub record Handed (r s : RefT (List ℕ)) (p : Part) (told : ℕ) : Type 0 where
+-- r is the very part of s that p says, and the number and the reason told are p's.
+pub record Handed (r s : RefT (List ℕ)) (p : Part) (told why : ℕ) : Type 0 where
   pub number : told ≡ partNumber p
+  pub reason : why ≡ partReason p
   pub part : PartOf r s (partStart p) (partLength p)
 
 -- The raw lookup over two heaps: the very part of the heap that is meant.
-abbrev pub Looked : RefT (List ℕ) → RefT (List ℕ) → RefT (List ℕ) → Heap → ℕ → ℕ → Type 0
-Looked r strings blobs Strings i told = Handed r strings (stringAt (now strings) i) told
-Looked r strings blobs Blobs i told = Handed r blobs (blobAt (now blobs) i) told
+abbrev pub Looked : RefT (List ℕ) → RefT (List ℕ) → RefT (List ℕ) → Heap → ℕ → ℕ → ℕ → Type 0
+Looked r strings blobs Strings i told why = Handed r strings (stringAt (now strings) i) told why
+Looked r strings blobs Blobs i told why = Handed r blobs (blobAt (now blobs) i) told why

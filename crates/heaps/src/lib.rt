@@ -14,7 +14,7 @@ pub enum Heap {
     Blobs,
 }
 
-// Where in its heap the bytes of a lookup are, or why there are none. Replies do not show the reason: each is refusal 7.
+// Where in its heap the bytes of a lookup are, or why there are none.
 pub enum Part {
     Found { start: usize, len: usize },
     Absent(Reason),
@@ -94,41 +94,46 @@ pub fn get_blob(blobs: &[u8], index: usize) -> Part
     }
 }
 
-// The part of a heap that a lookup found, with 0 beside it; or an empty part, with 7.
-fn hand<'a>(s: &'a [u8], p: Part, refusal: &mut u8) -> &'a [u8]
+// The part of a heap that a lookup found, with 0 and no reason beside it; or an empty part, with 7 and the reason.
+fn hand<'a>(s: &'a [u8], p: Part, refusal: &mut u8, reason: &mut u8) -> &'a [u8]
     requires { ⌜ Inside (now s) p ⌝ }
-    ensures { λ r. ⌜ Handed r (s .entry) p (now (refusal .exit)) ⌝ }
+    ensures { λ r. ⌜ Handed r (s .entry) p (now (refusal .exit)) (now (reason .exit)) ⌝ }
 {
     match p {
         Part::Found { start, len } => {
             *refusal = 0;
+            *reason = 0;
             numbers::cut(s, start, len)
         }
         Part::Absent(why) => {
-            *refusal = buffers::refusal_number(Refusal::NotFound(why));
+            let no = Refusal::NotFound(why);
+            *refusal = buffers::refusal_number(no);
+            *reason = buffers::reason_number(no);
             numbers::cut(s, 0, 0)
         }
     }
 }
 
-// The raw lookup: the very part of the heap that is meant, and 0 in `refusal`; or an empty part of it, and refusal 7.
+// The raw lookup: the very part of the heap that is meant, and 0 in `refusal`; or an empty part of it, and refusal 7. In `reason` stands
+// why a string is missing, else 0.
 pub fn lookup<'a>(
     strings: &'a [u8],
     blobs: &'a [u8],
     heap: Heap,
     index: u32,
     refusal: &mut u8,
+    reason: &mut u8,
 ) -> &'a [u8]
-    ensures { λ r. ⌜ Looked r (strings .entry) (blobs .entry) heap index (now (refusal .exit)) ⌝ }
+    ensures { λ r. ⌜ Looked r (strings .entry) (blobs .entry) heap index (now (refusal .exit)) (now (reason .exit)) ⌝ }
 {
     match heap {
         Heap::Strings => {
             let p = get_string(strings, index as usize);
-            hand(strings, p, refusal)
+            hand(strings, p, refusal, reason)
         }
         Heap::Blobs => {
             let p = get_blob(blobs, index as usize);
-            hand(blobs, p, refusal)
+            hand(blobs, p, refusal, reason)
         }
     }
 }

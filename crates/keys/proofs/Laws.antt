@@ -3,7 +3,7 @@
 use mathlib.Core.Path.{_≡_, refl, sym, ap, _∙_, subst}
 use mathlib.Core.Bool.{Bool, true, false, cond}
 use mathlib.Core.List.{List, [], _∷_, _++_}
-use mathlib.Core.Option.{Option, none, some}
+use mathlib.Core.Option.{none, some}
 use mathlib.Core.Logic.{_≢_, ⊎-elim}
 use Prim.Native.Nat.{ℕ, zero, suc, _+_, _-_, _≤_, _<_}
 use native.Mathlib.Numerals.{add-one}
@@ -12,8 +12,7 @@ use borrow.Author.Tests.{eq-eqb, ne-eqb}
 use lib.Dec.{eqb}
 use lib.ListN.{length, getElem?, length-append}
 use Rattle.numbers.proofs.Lists.{item-seam, item-past}
-use Rattle.buffers.specs.Texts.{Text}
-use Rattle.heaps.specs.Lookups.{string}
+use Rattle.heaps.specs.Lookups.{Name, name}
 use Rattle.tables.specs.Extents.{sizesIn}
 use Rattle.record.specs.Rows.{ofKey}
 use Rattle.record.specs.Columns.{column, genericName, implInterface}
@@ -152,12 +151,12 @@ module _ {t l : List ℕ} (laid : Laid t l) where
 -- ---- The names of an owner's generic parameters, by the view
 
 module _ {t l : List ℕ} (laid : Laid t l) (strings blob : List ℕ) (k : ℕ) where
-  abbrev names : List (Option Text)
+  abbrev names : List Name
   names = viewIn t l strings blob .generics k
 
   -- The name that a row of GenericParam gives.
-  abbrev nameAt : List ℕ → Option Text
-  nameAt r = string strings (genericName (sizesIn (optionsIn l) (headerIn t l)) r)
+  abbrev nameAt : List ℕ → Name
+  nameAt r = name strings (genericName (sizesIn (optionsIn l) (headerIn t l)) r)
 
   -- What a search among the owners finds.
   abbrev Finds : ℕ → Row → Type 0
@@ -167,7 +166,7 @@ module _ {t l : List ℕ} (laid : Laid t l) (strings blob : List ℕ) (k : ℕ) 
   unfolding viewOf
   generics-count = listed-count laid columns.owner (omega arith) nameAt k
 
-  pub generics-item : (nth i : ℕ) → Finds nth (At i) → (i < rowsAt l columns.genericName) × (getElem? names nth ≡ some (string strings (cell t l columns.genericName i)))
+  pub generics-item : (nth i : ℕ) → Finds nth (At i) → (i < rowsAt l columns.genericName) × (getElem? names nth ≡ some (name strings (cell t l columns.genericName i)))
   unfolding viewOf
   generics-item nth i h =
       let a = rows-at laid columns.owner (omega arith) in
@@ -180,7 +179,7 @@ module _ {t l : List ℕ} (laid : Laid t l) (strings blob : List ℕ) (k : ℕ) 
 
   -- The same of an answer that was matched.
   pub generics-found : (nth i : ℕ) {r : Row} → Finds nth r → r ≡ At i
-      → (i < rowsAt l columns.genericName) × (getElem? names nth ≡ some (string strings (cell t l columns.genericName i)))
+      → (i < rowsAt l columns.genericName) × (getElem? names nth ≡ some (name strings (cell t l columns.genericName i)))
   generics-found nth i h e = generics-item nth i (subst (Finds nth) e h)
 
   pub generics-missed : (nth : ℕ) {r : Row} → Finds nth r → r ≡ NoRow → getElem? names nth ≡ none

@@ -13,7 +13,7 @@ use borrow.Author.Tests.{le-leb, lt-leb}
 use lib.ListN.{length}
 use Rattle.buffers.specs.Texts.{Text, q}
 use Rattle.buffers.specs.Writes.{Wrote, Kept}
-use Rattle.buffers.specs.Replies.{Answer, refusedBy, value}
+use Rattle.buffers.specs.Replies.{number, Refused, Answer, refused, refusedBy, value}
 use Rattle.buffers.specs.declared.Refusal.the-variants.{NoSuchRow, NoName}
 use Rattle.buffers.specs.declared.Reason.the-variants.{Untold}
 use Rattle.buffers.proofs.Writing.{wrote-then, wrote-kept, kept-wrote, wrote-anew}
@@ -55,10 +55,10 @@ module _ (key : Text) {a : Answer Text} {o o′ : List ℕ} {at at′ : ℕ} whe
       → Wrote o at (nameLine key a) o′ at′ × (true ≡ hasLine a)
   line-of-name is w = (rw is w, rw is)
 
-  pub line-of-missing : a ≡ refusedBy (NoName Untold) → Wrote o at (line key []) o′ at′
+  pub line-of-missing : {r : Refused} → a ≡ refused r → r .number ≡ number (NoName Untold) → Wrote o at (line key []) o′ at′
       → Wrote o at (nameLine key a) o′ at′ × (true ≡ hasLine a)
   unfolding missingLine
-  line-of-missing is w = (rw is w, rw is)
+  line-of-missing is five w = (rw (is, five) w, rw (is, five))
 
   pub line-of-none : a ≡ refusedBy NoSuchRow → {o₁ o₂ : List ℕ} {start : ℕ} → Wrote o at key o₁ start → Kept o₁ start o₂
       → Wrote o₂ at [] o′ at′ → Wrote o at (nameLine key a) o′ at′ × (false ≡ hasLine a)

@@ -1,3 +1,4 @@
 pub mod Laws
 pub mod Stepping
 pub mod Ending
+pub mod Reasons

@@ -5,6 +5,7 @@ use Prim.Native.Nat.{ℕ}
 use lib.ListN.{length}
 use Rattle.buffers.specs.Texts.{Text, q}
 use Rattle.buffers.specs.Replies.{Answer, refused, value}
+use Rattle.heaps.specs.Lookups.{textOf}
 use Rattle.bundle.specs.Input.{bundleOf, bundleSays}
 use Rattle.header.specs.Stream.{base}
 use Rattle.record.specs.View.{View, view}
@@ -22,17 +23,17 @@ parameterLines p = valueLine (q "ptype=") (p .type) ++ valueLine (q "pname=") (p
 
 unfoldable pub methodLines : Method → Text
 methodLines m =
-    valueLine (q "method=") (m .name)
+    valueLine (q "method=") (textOf (m .name))
     ++ (numberLine (q "mflags=") (m .flags)
-    ++ (each (valueLine (q "mgeneric=")) (m .generics)
+    ++ (each (λ g. valueLine (q "mgeneric=") (textOf g)) (m .generics)
     ++ (valueLine (q "returns=") (m .returns)
     ++ each parameterLines (m .parameters))))
 
 unfoldable pub classLines : Class → Text
 classLines c =
-    valueLine (q "class=") (c .name)
+    valueLine (q "class=") (textOf (c .name))
     ++ (numberLine (q "flags=") (c .flags)
-    ++ (each (valueLine (q "generic=")) (c .generics)
+    ++ (each (λ g. valueLine (q "generic=") (textOf g)) (c .generics)
     ++ (each (λ b. valueLine (q "base=") (some b)) (c .bases)
     ++ each methodLines (c .methods))))
 

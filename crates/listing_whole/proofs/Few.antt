@@ -14,7 +14,7 @@ use Rattle.numbers.specs.Compressed.{uint}
 use Rattle.numbers.proofs.Lists.{tabulate-length, tabulate-item}
 use Rattle.numbers.proofs.Pick.{pick, pick-lt}
 use Rattle.buffers.specs.Texts.{Text}
-use Rattle.heaps.specs.Lookups.{blob, string}
+use Rattle.heaps.specs.Lookups.{blob, name}
 use Rattle.header.specs.Stream.{base, opened}
 use Rattle.header.proofs.Cases.{few-counted}
 use Rattle.layouts.specs.Kinds.{typeDef, methodDef, interfaceImpl, genericParam}
@@ -178,7 +178,7 @@ module _ (t strings heap : List ℕ) where
       omega (
         arith,
         rows-few t genericParam (omega arith),
-        keyed-few (owner w) (λ r. string strings (genericName w r)) (sideRow base o t genericParam) k (keptRows base o (length t) genericParam),
+        keyed-few (owner w) (λ r. name strings (genericName w r)) (sideRow base o t genericParam) k (keptRows base o (length t) genericParam),
       )
 
   interfaces-few : (k : ℕ) → length (v .interfaces k) ≤ 15000

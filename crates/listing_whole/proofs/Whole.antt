@@ -11,6 +11,7 @@ use Rattle.buffers.specs.Replies as replies
 use Rattle.buffers.specs.Replies.{Answer, refused, refusedBy, value, nameOr5}
 use Rattle.buffers.specs.declared.Refusal.{Refusal}
 use Rattle.buffers.specs.declared.Refusal.the-variants.{NoSuchRow}
+use Rattle.heaps.specs.Lookups.{Name, found, missing, textOf, nameOrWhy}
 use Rattle.header.specs.declared.Opened.{Opened}
 use Rattle.header.specs.declared.Opened.the-variants.{Refused, Ready}
 use Rattle.tables.specs.Extents.{walkBy}
@@ -95,21 +96,27 @@ next-few : {A : Type 0} (l : List A) (i : ℕ) {a : A} → Few l → getElem? l 
 next-few l i f e = omega (arith, item-below l i e)
 
 -- A name by its answer: its line, and that the listing goes on after it; and that past the last row it goes elsewhere.
-name-line : (key : Text) (o : Option Text) → nameLine key (nameOr5 o) ≡ valueLine key o
+record Shown (o : Option Text) (a : Answer Text) : Type 0 where
+  line : (key : Text) → nameLine key a ≡ valueLine key o
+  has : hasLine a ≡ true
+
+shown-text : (o : Option Text) → Shown o (nameOr5 o)
 unfolding missingLine
-name-line key none = refl
-name-line key (some t) = refl
+shown-text none = record { line = λ key. refl; has = refl }
+shown-text (some t) = record { line = λ key. refl; has = refl }
 
-name-has : (o : Option Text) → hasLine (nameOr5 o) ≡ true
-name-has none = refl
-name-has (some t) = refl
+-- Whatever the reason is.
+shown-name : (n : Name) → Shown (textOf n) (nameOrWhy n)
+unfolding missingLine
+shown-name (found t) = record { line = λ key. refl; has = refl }
+shown-name (missing why) = record { line = λ key. refl; has = refl }
 
-module _ (o : Option Text) {a : Answer Text} (e : a ≡ nameOr5 o) where
+module _ {o : Option Text} {x a : Answer Text} (s : Shown o x) (e : a ≡ x) where
   told : (key : Text) → nameLine key a ≡ valueLine key o
-  told key = ap (nameLine key) e ∙ name-line key o
+  told key = ap (nameLine key) e ∙ s .line key
 
-  goes : (x y : Cursor) → cond (hasLine a) x y ≡ x
-  goes x y = ap (λ (b : Bool). cond b x y) (ap hasLine e ∙ name-has o)
+  goes : (y z : Cursor) → cond (hasLine a) y z ≡ y
+  goes y z = ap (λ (b : Bool). cond b y z) (ap hasLine e ∙ s .has)
 
 module _ {a : Answer Text} (e : a ≡ refusedBy NoSuchRow) where
   untold : (key : Text) → nameLine key a ≡ []
@@ -131,7 +138,7 @@ listingSteps = classSteps * most + 3
 
 -- A method's lines.
 module _ (v : View) (c m : ℕ) (k : Method) (is : theMethod v c m ≡ value k) where
-  generic-at : (i : ℕ) {o : Option Text} → getElem? (k .generics) i ≡ some o → methodGenericName v c m i ≡ nameOr5 o
+  generic-at : (i : ℕ) {n : Name} → getElem? (k .generics) i ≡ some n → methodGenericName v c m i ≡ nameOrWhy n
   unfolding methodGenericName
   generic-at i e = rw (is, e)
 
@@ -151,7 +158,7 @@ module _ (v : View) (c m : ℕ) (k : Method) (is : theMethod v c m ≡ value k) 
   unfolding parameterType
   type-past = rw (is, item-end (k .parameters))
 
-  method-name : methodName v c m ≡ nameOr5 (k .name)
+  method-name : methodName v c m ≡ nameOrWhy (k .name)
   unfolding methodName
   method-name = rw is
 
@@ -164,29 +171,29 @@ module _ (v : View) (c m : ℕ) (k : Method) (is : theMethod v c m ≡ value k) 
   return-type = rw is
 
   module _ (few : FewInMethod k) where
-    generic-step : (i : ℕ) (o : Option Text) → getElem? (k .generics) i ≡ some o
-        → Within v 1 (cursor MethodGeneric c m i) (valueLine (q "mgeneric=") o) (cursor MethodGeneric c m (suc i))
+    generic-step : (i : ℕ) (n : Name) → getElem? (k .generics) i ≡ some n
+        → Within v 1 (cursor MethodGeneric c m i) (valueLine (q "mgeneric=") (textOf n)) (cursor MethodGeneric c m (suc i))
     unfolding lineAt nextAt
-    generic-step i o e =
-        single (told o (generic-at i e) (q "mgeneric="))
-        (goes o (generic-at i e) _ _ ∙ ap (cursor MethodGeneric c m) (next-few (k .generics) i (few .generics) e))
+    generic-step i n e =
+        single (told (shown-name n) (generic-at i e) (q "mgeneric="))
+        (goes (shown-name n) (generic-at i e) _ _ ∙ ap (cursor MethodGeneric c m) (next-few (k .generics) i (few .generics) e))
 
     parameter-steps : (i : ℕ) (p : Parameter) → getElem? (k .parameters) i ≡ some p
         → Within v 2 (cursor ParamType c m i) (parameterLines p) (cursor ParamType c m (suc i))
     unfolding parameterLines lineAt nextAt
     parameter-steps i p e =
-        after (told (p .type) (type-at i e) (q "ptype=")) (goes (p .type) (type-at i e) _ _)
-        (single (told (p .name) (name-at i e) (q "pname=")) (ap (cursor ParamType c m) (next-few (k .parameters) i (few .parameters) e)))
+        after (told (shown-text (p .type)) (type-at i e) (q "ptype=")) (goes (shown-text (p .type)) (type-at i e) _ _)
+        (single (told (shown-text (p .name)) (name-at i e) (q "pname=")) (ap (cursor ParamType c m) (next-few (k .parameters) i (few .parameters) e)))
 
     method-steps : nextNumber m ≡ suc m → Within v methodSteps (cursor AtMethod c m 0) (methodLines k) (cursor AtMethod c (suc m) 0)
     unfolding methodLines lineAt nextAt
     method-steps n =
         fewer (omega (arith, few .generics, few .parameters))
-        (after (told (k .name) method-name (q "method=")) (goes (k .name) method-name _ _)
+        (after (told (shown-name (k .name)) method-name (q "method=")) (goes (shown-name (k .name)) method-name _ _)
         (after (ap (answerLine (q "mflags=")) method-flags) refl
-        (then (items (valueLine (q "mgeneric=")) (cursor MethodGeneric c m) (k .generics) generic-step
+        (then (items (λ n. valueLine (q "mgeneric=") (textOf n)) (cursor MethodGeneric c m) (k .generics) generic-step
         (single (untold generic-past (q "mgeneric=")) (leaves generic-past _ _)))
-        (after (told (k .returns) return-type (q "returns=")) refl
+        (after (told (shown-text (k .returns)) return-type (q "returns=")) refl
         (items parameterLines (cursor ParamType c m) (k .parameters) parameter-steps
         (single (untold type-past (q "ptype=")) (leaves type-past _ _ ∙ ap (λ (x : ℕ). cursor AtMethod c x 0) n)))))))
 
@@ -199,7 +206,7 @@ module _ (v : View) (c : ℕ) (k : Class) (is : theClass v c ≡ value k) where
   unfolding methodName
   method-past = rw (is, item-end (k .methods))
 
-  class-name : className v c ≡ nameOr5 (k .name)
+  class-name : className v c ≡ nameOrWhy (k .name)
   unfolding className
   class-name = rw is
 
@@ -207,7 +214,7 @@ module _ (v : View) (c : ℕ) (k : Class) (is : theClass v c ≡ value k) where
   unfolding classFlags
   class-flags = rw is
 
-  class-generic : (i : ℕ) {o : Option Text} → getElem? (k .generics) i ≡ some o → genericName v c i ≡ nameOr5 o
+  class-generic : (i : ℕ) {n : Name} → getElem? (k .generics) i ≡ some n → genericName v c i ≡ nameOrWhy n
   unfolding genericName
   class-generic i e = rw (is, e)
 
@@ -224,19 +231,19 @@ module _ (v : View) (c : ℕ) (k : Class) (is : theClass v c ≡ value k) where
   base-past = rw (is, item-end (k .bases))
 
   module _ (few : FewInClass k) where
-    class-generic-step : (i : ℕ) (o : Option Text) → getElem? (k .generics) i ≡ some o
-        → Within v 1 (cursor Generic c 0 i) (valueLine (q "generic=") o) (cursor Generic c 0 (suc i))
+    class-generic-step : (i : ℕ) (n : Name) → getElem? (k .generics) i ≡ some n
+        → Within v 1 (cursor Generic c 0 i) (valueLine (q "generic=") (textOf n)) (cursor Generic c 0 (suc i))
     unfolding lineAt nextAt
-    class-generic-step i o e =
-        single (told o (class-generic i e) (q "generic="))
-        (goes o (class-generic i e) _ _ ∙ ap (cursor Generic c 0) (next-few (k .generics) i (few .generics) e))
+    class-generic-step i n e =
+        single (told (shown-name n) (class-generic i e) (q "generic="))
+        (goes (shown-name n) (class-generic i e) _ _ ∙ ap (cursor Generic c 0) (next-few (k .generics) i (few .generics) e))
 
     base-step : (i : ℕ) (t : Text) → getElem? (k .bases) i ≡ some t
         → Within v 1 (cursor Base c 0 i) (valueLine (q "base=") (some t)) (cursor Base c 0 (suc i))
     unfolding lineAt nextAt
     base-step i t e =
-        single (told (some t) (base-at i e) (q "base="))
-        (goes (some t) (base-at i e) _ _ ∙ ap (cursor Base c 0) (next-few (k .bases) i (few .bases) e))
+        single (told (shown-text (some t)) (base-at i e) (q "base="))
+        (goes (shown-text (some t)) (base-at i e) _ _ ∙ ap (cursor Base c 0) (next-few (k .bases) i (few .bases) e))
 
     method-turn : (m : ℕ) (x : Method) → getElem? (k .methods) m ≡ some x
         → Within v methodSteps (cursor AtMethod c m 0) (methodLines x) (cursor AtMethod c (suc m) 0)
@@ -246,9 +253,9 @@ module _ (v : View) (c : ℕ) (k : Class) (is : theClass v c ≡ value k) where
     unfolding classLines lineAt nextAt
     class-steps n =
         fewer (omega (arith, few .generics, few .bases, few .methods))
-        (after (told (k .name) class-name (q "class=")) (goes (k .name) class-name _ _)
+        (after (told (shown-name (k .name)) class-name (q "class=")) (goes (shown-name (k .name)) class-name _ _)
         (after (ap (answerLine (q "flags=")) class-flags) refl
-        (then (items (valueLine (q "generic=")) (cursor Generic c 0) (k .generics) class-generic-step
+        (then (items (λ n. valueLine (q "generic=") (textOf n)) (cursor Generic c 0) (k .generics) class-generic-step
         (single (untold class-generic-past (q "generic=")) (leaves class-generic-past _ _)))
         (then (items (λ b. valueLine (q "base=") (some b)) (cursor Base c 0) (k .bases) base-step
         (single (untold base-past (q "base=")) (leaves base-past _ _)))

@@ -12,6 +12,7 @@ use Rattle.numbers.specs.Reading.{Reader}
 use Rattle.buffers.specs.Texts.{Text}
 use Rattle.buffers.specs.Replies.{Answer, refusedBy, nameOr5}
 use Rattle.buffers.specs.Telling.{ToldIs, name, missing, no-row}
+use Rattle.buffers.specs.declared.Reason.the-variants.{Untold}
 use Rattle.buffers.specs.declared.Refusal.the-variants.{NoSuchRow}
 use Rattle.buffers.specs.declared.Told.{Told}
 use Rattle.buffers.specs.declared.Told.the-variants.{Name, Missing, NoRow}
@@ -239,7 +240,7 @@ module _ (v : View) (heap : List ℕ) (m p : ℕ) (k : Signature) (known : Knows
           (name (x .text) (answer-there v heap m p (drop-head (typesOf v m) p split) ∙ ap nameOr5 (x .got)) (x .wrote), rw f (next-known (x .on)))
 
       pub told-no-type : {next : ℕ} → r ≡ Failed next → {k′ : Signature} → k′ ≡ readMore k next
-          → ToldIs (item (method v m .parameters) p ⟫ (λ x. nameOr5 (x .type))) b at b′ Missing × KnowsSignature v heap k′
+          → ToldIs (item (method v m .parameters) p ⟫ (λ x. nameOr5 (x .type))) b at b′ (Missing Untold) × KnowsSignature v heap k′
       told-no-type e f =
           let x = rendered-failed at-part e in
           (missing (answer-there v heap m p (drop-head (typesOf v m) p split) ∙ ap nameOr5 (x .got)) (x .keeps), rw f (next-known (x .on)))

@@ -18,6 +18,7 @@ use Rattle.buffers.specs.declared.Refusal.the-variants.{NoSuchRow}
 use Rattle.buffers.specs.declared.Told.the-variants.{Name, Missing as NoName}
 use Rattle.heaps.specs.Lookups.{stringAt, string}
 use Rattle.buffers.specs.declared.Reason.{Reason}
+use Rattle.buffers.specs.declared.Reason.the-variants.{Untold}
 use Rattle.heaps.specs.declared.Part.{Part}
 use Rattle.heaps.specs.declared.Part.the-variants.{Found, Absent}
 use Rattle.heaps.proofs.Lookups.{string-within, string-some, string-none}
@@ -97,7 +98,7 @@ module _ {v : View} {heap : List ℕ} {m : ℕ} {b b′ : List ℕ} {at : ℕ} w
     made e = made-in (subst (ReadingIs v heap m (signatureOf v m) b at b′) e h)
 
     module _ (e : r ≡ Missing) where
-      pub no-return : ToldIs (nameOr5 (method v m .returns)) b at b′ NoName
+      pub no-return : ToldIs (nameOr5 (method v m .returns)) b at b′ (NoName Untold)
       no-return = missing (ap nameOr5 (unread-returns v m (reading-missed h e .0))) (reading-missed h e .1)
 
       pub no-parameters : 0 ≡ length (method v m .parameters)

@@ -3,6 +3,7 @@
 // question about the same method goes on where the last one left off. It is true whatever is asked next: a question first looks whether
 // it is about the method that is meant, and else finds out anew.
 use buffers::Place;
+use buffers::Reason;
 use buffers::Told;
 use classes::ClassNumber;
 use heaps::Part;
@@ -364,7 +365,7 @@ pub fn tell_return_type(
         Reading::Missing => {
             let signature = unread_signature(m, 0);
             Typed {
-                told: Told::Missing,
+                told: Told::Missing(Reason::Untold),
                 signature,
             }
         }
@@ -541,7 +542,7 @@ fn tell_next_type(
             signature: read_more(known, next),
         },
         Rendering::Failed(next) => Typed {
-            told: Told::Missing,
+            told: Told::Missing(Reason::Untold),
             signature: read_more(known, next),
         },
     }

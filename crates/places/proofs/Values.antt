@@ -1,29 +1,32 @@
 -- What a call answers of a class or a method that is listed: the values of its row, and the rows of the side tables that are its own.
 -- Assumes nothing.
-use mathlib.Core.Path.{_≡_, refl, sym, ap, _∙_}
+use mathlib.Core.Path.{_≡_, refl, sym, ap, ap₂, _∙_}
 use mathlib.Core.List.{List}
-use mathlib.Core.Option.{Option}
+use mathlib.Core.Option.{Option, none, some}
 use Prim.Native.Nat.{ℕ, _+_, _-_, _*_, _≤_, _<_}
 use native.Mathlib.Omega.{arith}
 use lib.ListN.{length, getElem?}
 use Rattle.buffers.specs.Texts.{Text}
+use Rattle.buffers.specs.Writes.{Said}
+use Rattle.buffers.specs.declared.Reason.{Reason}
 use Rattle.buffers.specs.Replies.{Refused, Answer, refused, refusedBy, value, nameOr5}
 use Rattle.buffers.specs.declared.Reply.the-variants.{Is, No}
 use Rattle.buffers.specs.declared.Refusal.the-variants.{NoSuchRow}
+use Rattle.buffers.specs.Telling as telling
 use Rattle.buffers.specs.Telling.{ToldIs, no-row}
 use Rattle.buffers.specs.declared.Told.{Told}
-use Rattle.buffers.specs.declared.Told.the-variants.{NoRow}
-use Rattle.buffers.proofs.Writing.{kept-same}
+use Rattle.buffers.specs.declared.Told.the-variants.{Name, Missing, NoRow}
+use Rattle.buffers.proofs.Writing.{kept-same, said-some, said-none}
 use Rattle.buffers.proofs.Telling.{told-same}
-use Rattle.heaps.specs.Lookups.{string}
+use Rattle.heaps.specs.Lookups.{name, reasonOf, nameOrWhy}
 use Rattle.classes.specs.declared.TypeDefRow.{TypeDefRow}
 use Rattle.layouts.specs.Kinds.{methodDef}
 use Rattle.layouts.specs.Read.{readColumn}
 use Rattle.tables.specs.Extents.{keptRows}
-use Rattle.record.specs.Missing.{over, andThen, orDefault}
+use Rattle.record.specs.Missing.{over, orDefault}
 use Rattle.record.specs.Columns as rowColumns
 use Rattle.record.specs.View.{View, viewOf}
-use Rattle.record.specs.Names.{rowsIn, sizesOf, classFullName}
+use Rattle.record.specs.Names.{nameIn, named, rowsIn, sizesOf, classFullName, classNamed}
 use Rattle.record.specs.Record.{Parameter, Method, method, class, classRecord}
 use Rattle.record.specs.Answers.{_⟫_, ready, orNoRow, item, theClass, theMethod, Numbered, classCount, classFlags, className, genericCount, genericName, methodCount, methodFlags, methodName, methodGenericCount, methodGenericName, returnType, parameterCount, parameterType, parameterName}
 use Rattle.record.proofs.Laws.{record-length}
@@ -70,19 +73,37 @@ module _ {t l : List ℕ} (laid : Laid t l) (strings blob : List ℕ) where
         ∙ ap (λ (r : Option (List ℕ)). value (orDefault 0 (over (rowColumns.typeFlags (sizesOf v)) r)))
         (class-row (optionsIn l) t strings blob c (omega (arith, classes-are laid strings blob columns.typeName (omega arith) refl, at .1))))
 
-    pub class-name : {b b′ : List ℕ} {place : ℕ} {r : Told} → ToldIs (nameOr5 (classFullName v (row .0))) b place b′ r → ToldIs (className v c) b place b′ r
-    unfolding className class
-    class-name n = told-same (through (λ k. nameOr5 (k .name)) is ∙ ap (λ (i : ℕ). nameOr5 (classFullName v i)) (sym (at .0))) n
+    -- Its name is the full name at its row, or missing for the reason that the string of its name column is.
+    name-is : className v c ≡ nameOrWhy (named (classFullName v (row .0)) (reasonOf (name strings (cell t l columns.typeName (row .0 - 1)))))
+    unfolding className class classNamed viewOf
+    name-is =
+        let i : row .0 - 1 ≡ c + 1 = omega (arith, at .0) in
+        through (λ k. nameOrWhy (k .name)) is
+        ∙ ap (λ (r : Option (List ℕ)). nameOrWhy (named (classFullName v (c + 2)) (reasonOf (nameIn v rowColumns.typeName r))))
+        (class-row (optionsIn l) t strings blob c (omega (arith, classes-are laid strings blob columns.typeName (omega arith) refl, at .1)))
+        ∙ ap₂ (λ (r j : ℕ). nameOrWhy (named (classFullName v r) (reasonOf (name strings (cell t l columns.typeName j))))) (sym (at .0)) (sym i)
+
+    module _ {b b′ : List ℕ} {place : ℕ} where
+      pub class-name : {end : ℕ} → Said b place b′ (classFullName v (row .0)) (some end) → ToldIs (className v c) b place b′ (Name end)
+      class-name s =
+          let there = said-some s in
+          telling.name (there .text) (name-is ∙ ap (λ o. nameOrWhy (named o (reasonOf (name strings (cell t l columns.typeName (row .0 - 1)))))) (there .is)) (there .wrote)
+
+      pub class-nameless : {why : Reason} → Said b place b′ (classFullName v (row .0)) none → why ≡ reasonOf (name strings (cell t l columns.typeName (row .0 - 1)))
+          → ToldIs (className v c) b place b′ (Missing why)
+      class-nameless s e =
+          let gone = said-none s in
+          telling.missing (name-is ∙ ap₂ (λ o y. nameOrWhy (named o y)) (gone .0) (sym e)) (gone .1)
 
     pub class-generics : {x : ℕ} → x ≡ length (v .generics (2 * row .0)) → Numbered (genericCount v c) (Is x)
     unfolding genericCount class
     class-generics e = ap value (e ∙ ap (λ (i : ℕ). length (v .generics (2 * i))) (at .0)) ∙ sym (through (λ k. value (length (k .generics))) is)
 
-    pub class-generic : (g : ℕ) {b b′ : List ℕ} {place : ℕ} {r : Told} → ToldIs (orNoRow (getElem? (v .generics (2 * row .0)) g) ⟫ nameOr5) b place b′ r
+    pub class-generic : (g : ℕ) {b b′ : List ℕ} {place : ℕ} {r : Told} → ToldIs (orNoRow (getElem? (v .generics (2 * row .0)) g) ⟫ nameOrWhy) b place b′ r
         → ToldIs (genericName v c g) b place b′ r
     unfolding genericName class
     class-generic g n =
-        told-same (through (λ k. item (k .generics) g ⟫ nameOr5) is ∙ ap (λ (i : ℕ). orNoRow (getElem? (v .generics (2 * i)) g) ⟫ nameOr5) (sym (at .0))) n
+        told-same (through (λ k. item (k .generics) g ⟫ nameOrWhy) is ∙ ap (λ (i : ℕ). orNoRow (getElem? (v .generics (2 * i)) g) ⟫ nameOrWhy) (sym (at .0))) n
 
     pub class-methods : {first end : ℕ} → RangeOf v (row .0 - 2) first end → Numbered (methodCount v c) (Is (end - first))
     class-methods r = sym (methods-counted v c is (range-of (at .0) r))
@@ -107,11 +128,11 @@ module _ {t l : List ℕ} (laid : Laid t l) (strings blob : List ℕ) where
     module _ (b : List ℕ) (place : ℕ) where
       pub no-class-name : ToldIs (className v c) b place b NoRow
       unfolding className
-      no-class-name = no-row (stopped (λ k. nameOr5 (k .name)) isn't) (kept-same b place)
+      no-class-name = no-row (stopped (λ k. nameOrWhy (k .name)) isn't) (kept-same b place)
 
       pub no-class-generic : (g : ℕ) → ToldIs (genericName v c g) b place b NoRow
       unfolding genericName
-      no-class-generic g = no-row (stopped (λ k. item (k .generics) g ⟫ nameOr5) isn't) (kept-same b place)
+      no-class-generic g = no-row (stopped (λ k. item (k .generics) g ⟫ nameOrWhy) isn't) (kept-same b place)
 
   -- A method that is listed, at a place of MethodDef.
   module _ (c m : ℕ) {i : ℕ} (at : (theMethod v c m ≡ value (method v i)) × (i < rowsIn v methodDef)) where
@@ -128,21 +149,21 @@ module _ {t l : List ℕ} (laid : Laid t l) (strings blob : List ℕ) where
         ∙ sym (through (λ k. value (k .flags)) (at .0)
         ∙ ap (λ (r : Option (List ℕ)). value (orDefault 0 (over (rowColumns.methodFlags (sizesOf v)) r))) (method-row (optionsIn l) t strings blob i (at .1)))
 
-    pub method-name : {b b′ : List ℕ} {place : ℕ} {r : Told} → ToldIs (nameOr5 (string strings (cell t l columns.methodName i))) b place b′ r → ToldIs (methodName v c m) b place b′ r
+    pub method-name : {b b′ : List ℕ} {place : ℕ} {r : Told} → ToldIs (nameOrWhy (name strings (cell t l columns.methodName i))) b place b′ r → ToldIs (methodName v c m) b place b′ r
     unfolding methodName method viewOf
     method-name n =
-        told-same (through (λ k. nameOr5 (k .name)) (at .0)
-        ∙ ap (λ (r : Option (List ℕ)). nameOr5 (andThen r (λ bytes. string strings (rowColumns.methodName (sizesOf v) bytes))))
+        told-same (through (λ k. nameOrWhy (k .name)) (at .0)
+        ∙ ap (λ (r : Option (List ℕ)). nameOrWhy (nameIn v rowColumns.methodName r))
         (method-row (optionsIn l) t strings blob i (at .1))) n
 
     pub method-generics : {x : ℕ} → x ≡ length (v .generics (2 * (i + 1) + 1)) → Numbered (methodGenericCount v c m) (Is x)
     unfolding methodGenericCount method
     method-generics e = ap value e ∙ sym (through (λ k. value (length (k .generics))) (at .0))
 
-    pub method-generic : (g : ℕ) {b b′ : List ℕ} {place : ℕ} {r : Told} → ToldIs (orNoRow (getElem? (v .generics (2 * (i + 1) + 1)) g) ⟫ nameOr5) b place b′ r
+    pub method-generic : (g : ℕ) {b b′ : List ℕ} {place : ℕ} {r : Told} → ToldIs (orNoRow (getElem? (v .generics (2 * (i + 1) + 1)) g) ⟫ nameOrWhy) b place b′ r
         → ToldIs (methodGenericName v c m g) b place b′ r
     unfolding methodGenericName method
-    method-generic g n = told-same (through (λ k. item (k .generics) g ⟫ nameOr5) (at .0)) n
+    method-generic g n = told-same (through (λ k. item (k .generics) g ⟫ nameOrWhy) (at .0)) n
 
     pub method-returns : {b b′ : List ℕ} {place : ℕ} {r : Told} → ToldIs (nameOr5 (method v i .returns)) b place b′ r → ToldIs (returnType v c m) b place b′ r
     unfolding returnType
@@ -179,7 +200,7 @@ module _ {t l : List ℕ} (laid : Laid t l) (strings blob : List ℕ) where
     module _ (b : List ℕ) (place : ℕ) where
       pub no-method-name : ToldIs (methodName v c m) b place b NoRow
       unfolding methodName
-      no-method-name = no-row (stopped (λ k. nameOr5 (k .name)) isn't) (kept-same b place)
+      no-method-name = no-row (stopped (λ k. nameOrWhy (k .name)) isn't) (kept-same b place)
 
       pub no-method-returns : ToldIs (returnType v c m) b place b NoRow
       unfolding returnType
@@ -197,13 +218,13 @@ module _ {t l : List ℕ} (laid : Laid t l) (strings blob : List ℕ) where
 
       pub no-method-generic : (g : ℕ) → ToldIs (methodGenericName v c m g) b place b NoRow
       unfolding methodGenericName
-      no-method-generic g = no-row (stopped (λ k. item (k .generics) g ⟫ nameOr5) isn't) (kept-same b place)
+      no-method-generic g = no-row (stopped (λ k. item (k .generics) g ⟫ nameOrWhy) isn't) (kept-same b place)
 
   -- A generic parameter that was searched for among those of an owner, and what its name came to at a place.
   module _ (owner : ℕ) {nth g : ℕ} {r : Row} (e : nth ≡ g) (found : FoundIs (cell t l columns.owner) owner (rowsAt l columns.owner) nth r) {b : List ℕ} {place : ℕ} where
-    pub told-generic : {b′ : List ℕ} {i : ℕ} {told : Told} → r ≡ At i → ToldIs (nameOr5 (string strings (cell t l columns.genericName i))) b place b′ told
-        → ToldIs (orNoRow (getElem? (v .generics owner) g) ⟫ nameOr5) b place b′ told
+    pub told-generic : {b′ : List ℕ} {i : ℕ} {told : Told} → r ≡ At i → ToldIs (nameOrWhy (name strings (cell t l columns.genericName i))) b place b′ told
+        → ToldIs (orNoRow (getElem? (v .generics owner) g) ⟫ nameOrWhy) b place b′ told
     told-generic {i = i} f n = rw (← e, generics-found laid strings blob owner nth i found f .1) n
 
-    pub told-no-generic : r ≡ NoKey → ToldIs (orNoRow (getElem? (v .generics owner) g) ⟫ nameOr5) b place b NoRow
+    pub told-no-generic : r ≡ NoKey → ToldIs (orNoRow (getElem? (v .generics owner) g) ⟫ nameOrWhy) b place b NoRow
     told-no-generic f = rw (← e, generics-missed laid strings blob owner nth found f) (no-row refl (kept-same b place))

@@ -10,8 +10,9 @@ ghost use mathlib.Core.Path.{_≡_};
 ghost use mathlib.Core.List.{List};
 ghost use Prim.Native.Nat.{ℕ, _-_, _<_, _≤_};
 ghost use lib.ListN.{length, getElem?};
-ghost use Rattle.buffers.specs.Replies.{value, nameOr5};
+ghost use Rattle.buffers.specs.Replies.{value};
 ghost use Rattle.buffers.specs.Telling.{ToldIs};
+ghost use Rattle.heaps.specs.Lookups.{nameOrWhy};
 ghost use Rattle.record.specs.View.{View};
 ghost use Rattle.record.specs.Record.{class};
 ghost use Rattle.record.specs.Answers.{_⟫_, orNoRow, theClass};
@@ -155,7 +156,7 @@ pub fn tell_generic(
     requires { ⌜ Laid (now tables) (now layout) ⌝ }
     ensures { λ r.
         ⌜ ((blob : List ℕ) → ToldIs
-        (orNoRow (getElem? (viewIn (now (tables .entry)) (now (layout .entry)) (now (strings .entry)) blob .generics owner) g) ⟫ nameOr5)
+        (orNoRow (getElem? (viewIn (now (tables .entry)) (now (layout .entry)) (now (strings .entry)) blob .generics owner) g) ⟫ nameOrWhy)
         (now (buf .entry)) at (now (buf .exit)) r) ⌝ }
 {
     match keys::find_key(tables, layout, columns::OWNER, owner, wide(g)) {

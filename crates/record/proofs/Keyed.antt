@@ -3,7 +3,7 @@
 use mathlib.Core.Path.{_≡_, refl, sym, ap, _∙_}
 use mathlib.Core.Logic.{_⊎_, inl, inr, _≢_}
 use mathlib.Core.Bool.{Bool, true, false, cond}
-use mathlib.Core.List.{List, [], _∷_, _++_, append-assoc, append-cancel-left}
+use mathlib.Core.List.{List, [], _∷_, _++_, map, map-append, append-assoc, append-cancel-left}
 use Prim.Native.Nat.{ℕ, zero, suc, _<_}
 use native.Mathlib.Nat.{eq-or-lt-of-le, le-of-suc-le-suc}
 use native.Mathlib.Omega.{arith}
@@ -61,3 +61,15 @@ module _ {W : Type 0} (key : List ℕ → ℕ) (value : List ℕ → W) where
       let en = cn .1 in
       let tails = append-cancel-left (ofKey key value old a k) (value (new a) ∷ cn .0) (value (old a) ∷ co .0) (cc) in
       ne (cc)
+
+-- What is made of each value of a key's list.
+pub ofKey-map : {X W : Type 0} (f : X → W) (key : List ℕ → ℕ) (value : List ℕ → X) (row : ℕ → List ℕ) (n k : ℕ)
+    → map f (ofKey key value row n k) ≡ ofKey key (λ r. f (value r)) row n k
+ofKey-map f key value row zero k = refl
+ofKey-map f key value row (suc n) k = go (eqb (key (row n)) k) (ofKey-map f key value row n k)
+  where
+    go : (x : Bool) → map f (ofKey key value row n k) ≡ ofKey key (λ r. f (value r)) row n k
+        → map f (cond x (ofKey key value row n k ++ value (row n) ∷ []) (ofKey key value row n k))
+        ≡ cond x (ofKey key (λ r. f (value r)) row n k ++ f (value (row n)) ∷ []) (ofKey key (λ r. f (value r)) row n k)
+    go true e = map-append f (ofKey key value row n k) (value (row n) ∷ []) ∙ ap (λ l. l ++ f (value (row n)) ∷ []) e
+    go false e = e

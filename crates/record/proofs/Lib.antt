@@ -14,3 +14,4 @@ pub mod Read
 pub mod Cases
 pub mod Example
 pub mod Look
+pub mod Reasons

@@ -4,7 +4,7 @@ use mathlib.Core.List.{List}
 use Prim.Native.Nat.{ℕ}
 use lib.ListN.{length}
 use Rattle.header.specs.declared.Header.{Header}
-use Rattle.heaps.specs.Lookups.{string}
+use Rattle.heaps.specs.Lookups.{name}
 use Rattle.layouts.specs.Kinds.{interfaceImpl, nestedClass, genericParam}
 use Rattle.record.specs.Columns.{owner, genericName, implClass, implInterface}
 use Rattle.tables.specs.Extents.{sizesIn, extent, keptRows}
@@ -43,8 +43,8 @@ module _ (o : Options) (t u strings blob : List ℕ) (r : Rearranged o t u) wher
   generics : view o u strings blob .generics ≡ view o t strings blob .generics
   unfolding viewOf
   generics =
-      seen genericParam (λ g row n. ofKey (owner (sizesIn o g)) (λ b. string strings (genericName (sizesIn o g) b)) row n) (r .generic-whole)
-      (fun-ext (ofKey-moved (owner (sizesIn o h)) (λ b. string strings (genericName (sizesIn o h) b)) _ _ _ (r .generics)))
+      seen genericParam (λ g row n. ofKey (owner (sizesIn o g)) (λ b. name strings (genericName (sizesIn o g) b)) row n) (r .generic-whole)
+      (fun-ext (ofKey-moved (owner (sizesIn o h)) (λ b. name strings (genericName (sizesIn o h) b)) _ _ _ (r .generics)))
 
   interfaces : view o u strings blob .interfaces ≡ view o t strings blob .interfaces
   unfolding viewOf

@@ -7,6 +7,7 @@ use Prim.Native.Nat.{ℕ}
 use lib.ListN.{length, getElem?}
 use Rattle.buffers.specs.Texts.{Text}
 use Rattle.buffers.specs.Replies.{Answer, refused, refusedBy, value, replySays, nameOr5}
+use Rattle.heaps.specs.Lookups.{nameOrWhy}
 use Rattle.buffers.specs.declared.Refusal.{Refusal}
 use Rattle.buffers.specs.declared.Refusal.the-variants.{NoSuchRow}
 use Rattle.buffers.specs.declared.Reply.{Reply}
@@ -77,21 +78,21 @@ methodGenericCount v c m = theMethod v c m ⟫ λ k. value (length (k .generics)
 unfoldable pub parameterCount : View → ℕ → ℕ → Answer ℕ
 parameterCount v c m = theMethod v c m ⟫ λ k. value (length (k .parameters))
 
--- The calls for a name.
+-- The calls for a name. Only the names of classes, methods and generic parameters tell why they are missing.
 unfoldable pub className : View → ℕ → Answer Text
-className v c = theClass v c ⟫ λ k. nameOr5 (k .name)
+className v c = theClass v c ⟫ λ k. nameOrWhy (k .name)
 
 unfoldable pub genericName : View → ℕ → ℕ → Answer Text
-genericName v c g = theClass v c ⟫ λ k. item (k .generics) g ⟫ nameOr5
+genericName v c g = theClass v c ⟫ λ k. item (k .generics) g ⟫ nameOrWhy
 
 unfoldable pub baseName : View → ℕ → ℕ → Answer Text
 baseName v c b = theClass v c ⟫ λ k. item (k .bases) b
 
 unfoldable pub methodName : View → ℕ → ℕ → Answer Text
-methodName v c m = theMethod v c m ⟫ λ k. nameOr5 (k .name)
+methodName v c m = theMethod v c m ⟫ λ k. nameOrWhy (k .name)
 
 unfoldable pub methodGenericName : View → ℕ → ℕ → ℕ → Answer Text
-methodGenericName v c m g = theMethod v c m ⟫ λ k. item (k .generics) g ⟫ nameOr5
+methodGenericName v c m g = theMethod v c m ⟫ λ k. item (k .generics) g ⟫ nameOrWhy
 
 unfoldable pub returnType : View → ℕ → ℕ → Answer Text
 returnType v c m = theMethod v c m ⟫ λ k. nameOr5 (k .returns)

@@ -8,10 +8,12 @@ use Prim.Native.Nat.{ℕ, zero, suc}
 use lib.Dec.{eqb}
 use lib.IntN.{ℤ, pos, negsuc}
 use lib.ListN.{replicate}
+use Rattle.buffers.specs.declared.Reason.the-variants.{NullIndex}
 use Rattle.buffers.specs.declared.Refusal.the-variants.{TooManyRows}
 use Rattle.header.specs.declared.Opened.the-variants.{Refused, Ready}
 use Rattle.numbers.specs.Compressed.{uint, sint}
 use Rattle.buffers.specs.Texts.{Text, q, same}
+use Rattle.heaps.specs.Lookups.{Name, found, missing}
 use Rattle.record.specs.Types.{Env, type}
 use Rattle.tables.specs.Extents.{sizesIn}
 use Rattle.record.specs.View.{View, view}
@@ -136,7 +138,7 @@ wholeView = view base wholeTables wholeStrings []
 -- stop=64, one class, N.L, flags 1, and nothing else.
 pub record WholeCase : Type 0 where
   pub stop : walkAnswer wholeView .stop ≡ value 64
-  pub classes : classRecord wholeView ≡ record { name = some (q "N.L"); flags = 1; generics = []; bases = []; methods = [] } ∷ []
+  pub classes : classRecord wholeView ≡ record { name = found (q "N.L"); flags = 1; generics = []; bases = []; methods = [] } ∷ []
 
 -- Three classes whose methods start at 0, 3 and 1 of five. Each class has one generic parameter, X, Y, Z, and each method returns the
 -- class's first generic parameter. Methods 1 and 2 go to the third class, but the first class's generics render them last.
@@ -220,24 +222,24 @@ richBlob = 0 ∷ 8 ∷ 0x10 ∷ 1 ∷ 2 ∷ 0x13 ∷ 0 ∷ 0x1E ∷ 0 ∷ 0x17 �
 
 abbrev pub outerMethods : List Method
 outerMethods =
-    record { name = some (q "f"); flags = 0x16; generics = some (q "M") ∷ []; returns = some (q "T"); parameters = record { type = some (q "M"); name = some (q "x") } ∷ record { type = none; name = some [] } ∷ [] }
-    ∷ record { name = some (q ".ctor"); flags = 6; generics = []; returns = some (q "void"); parameters = record { type = some (q "int"); name = none } ∷ [] }
+    record { name = found (q "f"); flags = 0x16; generics = found (q "M") ∷ []; returns = some (q "T"); parameters = record { type = some (q "M"); name = some (q "x") } ∷ record { type = none; name = some [] } ∷ [] }
+    ∷ record { name = found (q ".ctor"); flags = 6; generics = []; returns = some (q "void"); parameters = record { type = some (q "int"); name = none } ∷ [] }
     ∷ []
 
 abbrev pub midMethods : List Method
 midMethods =
-    record { name = none; flags = 0; generics = []; returns = some (q "int"); parameters = record { type = some (q "System.Object"); name = some [] } ∷ record { type = some (q "N.Outer"); name = some (q "P_1") } ∷ [] }
-    ∷ record { name = some (q "g"); flags = 0; generics = []; returns = none; parameters = [] }
+    record { name = missing NullIndex; flags = 0; generics = []; returns = some (q "int"); parameters = record { type = some (q "System.Object"); name = some [] } ∷ record { type = some (q "N.Outer"); name = some (q "P_1") } ∷ [] }
+    ∷ record { name = found (q "g"); flags = 0; generics = []; returns = none; parameters = [] }
     ∷ []
 
 abbrev pub RichCase : Type 0
 RichCase =
     classRecord (view base richTables richStrings richBlob)
-    ≡ record { name = some (q "N.Outer"); flags = 1; generics = some (q "T") ∷ none ∷ []; bases = q "System.Object" ∷ q "Mid.In" ∷ q "System.Object" ∷ []; methods = outerMethods }
-    ∷ record { name = some (q "N.Outer.Mid"); flags = 0; generics = []; bases = []; methods = midMethods }
-    ∷ record { name = some (q "Mid.In"); flags = 0; generics = some (q "U") ∷ []; bases = q "System.Object<U>" ∷ []; methods = [] }
-    ∷ record { name = none; flags = 0; generics = []; bases = []; methods = [] }
-    ∷ record { name = some (q ".E"); flags = 0; generics = []; bases = []; methods = [] }
+    ≡ record { name = found (q "N.Outer"); flags = 1; generics = found (q "T") ∷ missing NullIndex ∷ []; bases = q "System.Object" ∷ q "Mid.In" ∷ q "System.Object" ∷ []; methods = outerMethods }
+    ∷ record { name = found (q "N.Outer.Mid"); flags = 0; generics = []; bases = []; methods = midMethods }
+    ∷ record { name = found (q "Mid.In"); flags = 0; generics = found (q "U") ∷ []; bases = q "System.Object<U>" ∷ []; methods = [] }
+    ∷ record { name = missing NullIndex; flags = 0; generics = []; bases = []; methods = [] }
+    ∷ record { name = found (q ".E"); flags = 0; generics = []; bases = []; methods = [] }
     ∷ []
 
 -- Cut tables. A TypeDef row with this name and nothing else; a header of these two bytes of Valid.
@@ -264,7 +266,7 @@ basesOf t = map (λ k. k .bases) (classRecord (view base t cutStrings []))
 
 -- TypeDef keeps the whole rows before the cut; InterfaceImpl is kept only entire.
 pub record CutTables : Type 0 where
-  pub types : map (λ k. k .name) (classRecord (view base cutTypes cutStrings [])) ≡ some (q "A") ∷ []
+  pub types : map (λ k. k .name) (classRecord (view base cutTypes cutStrings [])) ≡ found (q "A") ∷ []
   pub entire : basesOf (interfacesEnding (0 ∷ [])) ≡ (q "B" ∷ q "B" ∷ []) ∷ [] ∷ []
   pub cut : basesOf (interfacesEnding []) ≡ [] ∷ [] ∷ []
 
@@ -278,18 +280,18 @@ nesting n₁ e₁ n₂ e₂ =
 unfoldable pub nestingStrings : List ℕ
 nestingStrings = 0 ∷ q "A" ++ 0 ∷ q "B" ++ 0 ∷ q "C" ++ 0 ∷ []
 
-abbrev pub namesOf : List ℕ → List (Option Text)
+abbrev pub namesOf : List ℕ → List Name
 namesOf t = map (λ k. k .name) (classRecord (view base t nestingStrings []))
 
 -- Rows act in order, and a namespace is the full name that the enclosing class has at that moment.
 pub record NestedNames : Type 0 where
   -- B in A, then C in B; and the other way round
-  pub outward : namesOf (nesting 3 2 4 3) ≡ some (q "A") ∷ some (q "A.B") ∷ some (q "A.B.C") ∷ []
-  pub inward : namesOf (nesting 4 3 3 2) ≡ some (q "A") ∷ some (q "A.B") ∷ some (q "B.C") ∷ []
+  pub outward : namesOf (nesting 3 2 4 3) ≡ found (q "A") ∷ found (q "A.B") ∷ found (q "A.B.C") ∷ []
+  pub inward : namesOf (nesting 4 3 3 2) ≡ found (q "A") ∷ found (q "A.B") ∷ found (q "B.C") ∷ []
   -- A in B, then B in A: a cycle
-  pub cycle : namesOf (nesting 2 3 3 2) ≡ some (q "B.A") ∷ some (q "B.A.B") ∷ some (q "C") ∷ []
+  pub cycle : namesOf (nesting 2 3 3 2) ≡ found (q "B.A") ∷ found (q "B.A.B") ∷ found (q "C") ∷ []
   -- A in itself, twice
-  pub self : namesOf (nesting 2 2 2 2) ≡ some (q "A.A.A") ∷ some (q "B") ∷ some (q "C") ∷ []
+  pub self : namesOf (nesting 2 2 2 2) ≡ found (q "A.A.A") ∷ found (q "B") ∷ found (q "C") ∷ []
   -- rows with an index 0 or 1 do nothing; an enclosing class that is not there leaves no namespace
-  pub idle : namesOf (nesting 3 1 0 2) ≡ some (q "A") ∷ some (q "B") ∷ some (q "C") ∷ []
-  pub gone : namesOf (nesting 3 2 3 9) ≡ some (q "A") ∷ some (q "B") ∷ some (q "C") ∷ []
+  pub idle : namesOf (nesting 3 1 0 2) ≡ found (q "A") ∷ found (q "B") ∷ found (q "C") ∷ []
+  pub gone : namesOf (nesting 3 2 3 9) ≡ found (q "A") ∷ found (q "B") ∷ found (q "C") ∷ []

@@ -1,11 +1,11 @@
 -- What is claimed of rearranged streams (demand 3). proofs/Demand.antt proves both halves.
 use mathlib.Core.Path.{_≡_}
 use mathlib.Core.Logic.{_≢_}
-use mathlib.Core.List.{List}
+use mathlib.Core.List.{List, map}
 use Prim.Native.Nat.{ℕ, _*_, _<_}
 use lib.ListN.{length}
 use Rattle.buffers.specs.declared.Reply.{Reply}
-use Rattle.heaps.specs.Lookups.{string}
+use Rattle.heaps.specs.Lookups.{textOf, string}
 use Rattle.layouts.specs.Kinds.{genericParam}
 use Rattle.record.specs.Columns.{owner, genericName}
 use Rattle.tables.specs.Extents.{sizesIn}
@@ -37,7 +37,8 @@ RearrangementSurvives =
     (o : Options) (t u strings blob : List ℕ) → Rearranged o t u
     → (view o u strings blob ≡ view o t strings blob) × Survives (view o t strings blob) (view o u strings blob)
 
--- Second half: two GenericParam rows of a listed class that have different names (or one missing), exchanged, change the values of that class.
+-- Second half: two GenericParam rows of a listed class that have different names (or one missing), exchanged, change the values of that class:
+-- the texts of its generic names. Two that are both missing, for whatever reasons, have the same name.
 abbrev pub SwapShows : Type 0
 SwapShows =
     (o : Options) (t u strings blob : List ℕ) (i j c : ℕ) → Swapped o t u i j
@@ -46,5 +47,6 @@ SwapShows =
     → owner (sizesIn o (opened o t)) (sideRow o (opened o t) t genericParam j) ≡ 2 * classIndex c
     → string strings (genericName (sizesIn o (opened o t)) (sideRow o (opened o t) t genericParam i))
     ≢ string strings (genericName (sizesIn o (opened o t)) (sideRow o (opened o t) t genericParam j))
-    → (class (view o u strings blob) c ≢ class (view o t strings blob) c)
+    → (map textOf (class (view o u strings blob) c .generics) ≢ map textOf (class (view o t strings blob) c .generics))
+    × (class (view o u strings blob) c ≢ class (view o t strings blob) c)
     × (classRecord (view o u strings blob) ≢ classRecord (view o t strings blob))

@@ -3,9 +3,9 @@
 use mathlib.Core.Path.{_≡_}
 use mathlib.Core.Logic.{_≢_}
 use mathlib.Core.List.{List, [], _∷_, _++_}
-use mathlib.Core.Option.{some}
 use Prim.Native.Nat.{ℕ}
 use Rattle.buffers.specs.Texts.{q}
+use Rattle.heaps.specs.Lookups.{found}
 use Rattle.header.specs.Stream.{base}
 use Rattle.record.specs.View.{view}
 use Rattle.record.specs.Record.{classRecord}
@@ -68,8 +68,8 @@ pub record Example : Type 0 where
   pub exchanged : Swapped base old swapped 0 2
   pub classes :
       classRecord (view base old strings [])
-      ≡ record { name = some (q "A"); flags = 0; generics = some (q "T") ∷ some (q "V") ∷ []; bases = q "C" ∷ []; methods = [] }
-      ∷ record { name = some (q "A.B"); flags = 0; generics = []; bases = []; methods = [] }
-      ∷ record { name = some (q "C"); flags = 0; generics = some (q "U") ∷ []; bases = []; methods = [] }
-      ∷ record { name = some (q "C.D"); flags = 0; generics = []; bases = q "A" ∷ []; methods = [] }
+      ≡ record { name = found (q "A"); flags = 0; generics = found (q "T") ∷ found (q "V") ∷ []; bases = q "C" ∷ []; methods = [] }
+      ∷ record { name = found (q "A.B"); flags = 0; generics = []; bases = []; methods = [] }
+      ∷ record { name = found (q "C"); flags = 0; generics = found (q "U") ∷ []; bases = []; methods = [] }
+      ∷ record { name = found (q "C.D"); flags = 0; generics = []; bases = q "A" ∷ []; methods = [] }
       ∷ []

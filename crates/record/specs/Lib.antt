@@ -15,3 +15,4 @@ pub mod Cases
 pub mod Rearrangement
 pub mod Demand
 pub mod Example
+pub mod Reasons

@@ -1,16 +1,18 @@
 -- Names of types, and the generic names and base types of a class, by the view.
 use mathlib.Core.Bool.{cond}
 use mathlib.Core.List.{List, [], _∷_, map}
-use mathlib.Core.Option.{Option, none}
+use mathlib.Core.Option.{Option, none, some}
 use Prim.Native.Nat.{ℕ, _+_, _*_, _-_}
 use lib.Dec.{eqb}
 use lib.ListN.{getElem?}
 use Rattle.layouts.specs.declared.IndexSizes.{IndexSizes}
 use Rattle.record.specs.Missing.{over, andThen, orDefault, present}
 use Rattle.buffers.specs.Texts.{Text}
-use Rattle.heaps.specs.Lookups.{string, blob}
+use Rattle.buffers.specs.declared.Reason.{Reason}
+use Rattle.buffers.specs.declared.Reason.the-variants.{Untold}
+use Rattle.heaps.specs.Lookups.{Name, found, missing, name, textOf, reasonOf, string, blob}
 use Rattle.layouts.specs.Kinds.{typeRef, typeDef, methodDef, typeSpec}
-use Rattle.record.specs.Columns.{refName, refNamespace, extends, specSignature}
+use Rattle.record.specs.Columns.{refName, refNamespace, typeName, extends, specSignature}
 use Rattle.tables.specs.Extents.{keptBy}
 use Rattle.record.specs.Namespaces.{cut, fullName, nameOf}
 use Rattle.record.specs.View.{View}
@@ -35,6 +37,11 @@ numberIn v col r = orDefault 0 (over (col (sizesOf v)) r)
 abbrev pub stringIn : View → (IndexSizes → List ℕ → ℕ) → Option (List ℕ) → Option Text
 stringIn v col r = andThen r (λ bytes. string (v .strings) (col (sizesOf v) bytes))
 
+-- The same with the reason where the string is missing; a row that is not there tells none.
+abbrev pub nameIn : View → (IndexSizes → List ℕ → ℕ) → Option (List ℕ) → Name
+nameIn v col none = missing Untold
+nameIn v col (some bytes) = name (v .strings) (col (sizesOf v) bytes)
+
 -- How many classes there are: TypeDef row 1 is none (`parse_type_defs`).
 unfoldable pub classes : View → ℕ
 classes v = rowsIn v typeDef - 1
@@ -57,6 +64,16 @@ methodRow v m = v .row methodDef m
 unfoldable pub classFullName : View → ℕ → Option Text
 classFullName v r = fullName (v .namespace r) (nameOf (sizesOf v) (v .strings) (v .row) r)
 
+-- A text that may be missing, for this reason.
+abbrev pub named : Option Text → Reason → Name
+named none why = missing why
+named (some t) why = found t
+
+-- The name of class c: its full name, missing for the reason that its own name is. A missing namespace, or a missing name around it, is no
+-- reason.
+unfoldable pub classNamed : View → ℕ → Name
+classNamed v c = named (classFullName v (classIndex c)) (reasonOf (nameIn v typeName (classRow v c)))
+
 -- The full name of TypeRef row r (II.22.38, `get_type_fullname`); its ResolutionScope is not looked at.
 unfoldable pub refFullName : View → ℕ → Option Text
 refFullName v r = let row = indexed v typeRef r in fullName (stringIn v refNamespace row) (over cut (stringIn v refName row))
@@ -67,18 +84,18 @@ specBlob v r = andThen (indexed v typeSpec r) (λ bytes. blob (v .blob) (specSig
 
 -- The generic names of class c and of method m (II.22.20, `parse_generic_params`): an owner's low bit is 0 for a TypeDef row, 1 for a
 -- MethodDef row, and the rest is the row's number from 1. So owners 0, 1 and TypeDef row 1 belong to nobody.
-abbrev pub classGenerics : View → ℕ → List (Option Text)
+abbrev pub classGenerics : View → ℕ → List Name
 classGenerics v c = v .generics (2 * classIndex c)
 
-abbrev pub methodGenerics : View → ℕ → List (Option Text)
+abbrev pub methodGenerics : View → ℕ → List Name
 methodGenerics v m = v .generics (2 * methodIndex m + 1)
 
 -- The generic name at a place: missing past the end, and where it is missing itself.
-abbrev pub nameAt : List (Option Text) → ℕ → Option Text
-nameAt l i = andThen (getElem? l i) (λ name. name)
+abbrev pub nameAt : List Name → ℕ → Option Text
+nameAt l i = andThen (getElem? l i) textOf
 
 -- What signatures are read with, by the generic names of a class and of a method.
-abbrev pub env : View → List (Option Text) → List (Option Text) → Env
+abbrev pub env : View → List Name → List Name → Env
 env v ofClass ofMethod =
     record {
       typeDefs = classFullName v;

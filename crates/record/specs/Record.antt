@@ -1,13 +1,15 @@
--- The class record: for each class in order the values from its `class=` line on, uncut, missing told from empty. A function of the view.
+-- The class record: for each class in order the values from its `class=` line on, uncut, missing told from empty; the names of classes,
+-- methods and generic parameters also tell why they are missing. A function of the view.
 use mathlib.Core.List.{List, [], _∷_}
 use mathlib.Core.Option.{Option}
 use Prim.Native.Nat.{ℕ, _+_, _-_}
 use Rattle.numbers.specs.Lists.{tabulate}
 use Rattle.record.specs.Missing.{over, orDefault}
 use Rattle.buffers.specs.Texts.{Text}
+use Rattle.heaps.specs.Lookups.{Name}
 use Rattle.record.specs.Columns.{typeFlags, methodFlags, methodName}
 use Rattle.record.specs.View.{View}
-use Rattle.record.specs.Names.{stringIn, classes, classIndex, classRow, methodRow, classFullName, classGenerics, methodGenerics, baseTypes, numberIn}
+use Rattle.record.specs.Names.{nameIn, classes, classRow, methodRow, classNamed, classGenerics, methodGenerics, baseTypes, numberIn}
 use Rattle.record.specs.Methods.{leftAfter, signatureOf, parameterName}
 
 pub record Parameter : Type 0 where
@@ -15,16 +17,16 @@ pub record Parameter : Type 0 where
   pub name : Option Text
 
 pub record Method : Type 0 where
-  pub name : Option Text
+  pub name : Name
   pub flags : ℕ
-  pub generics : List (Option Text)
+  pub generics : List Name
   pub returns : Option Text
   pub parameters : List Parameter
 
 pub record Class : Type 0 where
-  pub name : Option Text
+  pub name : Name
   pub flags : ℕ
-  pub generics : List (Option Text)
+  pub generics : List Name
   pub bases : List Text
   pub methods : List Method
 
@@ -39,7 +41,7 @@ method v m =
     let row = methodRow v m in
     let signature = signatureOf v m in
     record {
-      name = stringIn v methodName row;
+      name = nameIn v methodName row;
       flags = numberIn v methodFlags row;
       generics = methodGenerics v m;
       returns = over (λ s. s .returns) signature;
@@ -50,7 +52,7 @@ method v m =
 unfoldable pub class : View → ℕ → Class
 class v c =
     record {
-      name = classFullName v (classIndex c);
+      name = classNamed v c;
       flags = numberIn v typeFlags (classRow v c);
       generics = classGenerics v c;
       bases = baseTypes v c;

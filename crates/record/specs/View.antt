@@ -11,7 +11,7 @@ use Rattle.header.specs.Stream.{opened}
 use Rattle.header.specs.declared.Options.{Options}
 use Rattle.header.specs.declared.Header.{Header}
 use Rattle.buffers.specs.Texts.{Text}
-use Rattle.heaps.specs.Lookups.{string}
+use Rattle.heaps.specs.Lookups.{Name, name}
 use Rattle.layouts.specs.declared.IndexSizes.{IndexSizes}
 use Rattle.layouts.specs.Kinds.{interfaceImpl, nestedClass, genericParam}
 use Rattle.record.specs.Columns.{owner, genericName, implClass, implInterface}
@@ -33,7 +33,7 @@ pub record View : Type 0 where
   -- the kept rows of the other tables, by kind and place from 0
   pub row : ℕ → ℕ → Option (List ℕ)
   -- the names of an owner's generic parameters, by the Owner column as stored
-  pub generics : ℕ → List (Option Text)
+  pub generics : ℕ → List Name
   -- the Interface columns of a class, by the Class column as stored
   pub interfaces : ℕ → List ℕ
   -- the namespace of a TypeDef row, from 1, once all NestedClass rows have acted
@@ -65,7 +65,7 @@ module _ (o : Options) (h : Header) (t : List ℕ) where
         size = length t;
         sizes = sizesIn o h;
         row = otherRow;
-        generics = ofKey (owner (sizesIn o h)) (λ r. string strings (genericName (sizesIn o h) r)) (sideRow genericParam) (sideRows genericParam);
+        generics = ofKey (owner (sizesIn o h)) (λ r. name strings (genericName (sizesIn o h) r)) (sideRow genericParam) (sideRows genericParam);
         interfaces = ofKey (implClass (sizesIn o h)) (implInterface (sizesIn o h)) (sideRow interfaceImpl) (sideRows interfaceImpl);
         namespace =
             runs (nest (sizesIn o h) strings otherRow) (sideRow nestedClass) (sideRows nestedClass)

@@ -13,15 +13,16 @@ use Rattle.numbers.specs.Fixed.{leAt, TwoOrFour}
 use Rattle.numbers.specs.Parts.{CutOf}
 use Rattle.numbers.proofs.Parts.{cut-is}
 use Rattle.buffers.specs.Writes.{Wrote}
-use Rattle.buffers.specs.Replies.{nameOr5}
-use Rattle.buffers.specs.Telling.{ToldIs, name, missing}
+use Rattle.buffers.specs.Telling as telling
+use Rattle.buffers.specs.Telling.{ToldIs}
 use Rattle.buffers.specs.declared.Told.the-variants.{Name, Missing}
 use Rattle.buffers.proofs.Writing.{kept-same}
-use Rattle.heaps.specs.Lookups.{stringAt, string}
+use Rattle.heaps.specs.Lookups.{stringAt, name, reasonOf, nameOrWhy}
 use Rattle.buffers.specs.declared.Reason.{Reason}
+use Rattle.buffers.specs.declared.Reason.the-variants.{Untold}
 use Rattle.heaps.specs.declared.Part.{Part}
 use Rattle.heaps.specs.declared.Part.the-variants.{Found, Absent}
-use Rattle.heaps.proofs.Lookups.{string-within, string-some, string-none}
+use Rattle.heaps.proofs.Lookups.{string-within, name-found, name-missing}
 use Rattle.header.specs.declared.Options.{Options}
 use Rattle.header.specs.declared.Header.{Header}
 use Rattle.layouts.specs.Columns.{tables, Two, columnsOf, widthIn, rowSize}
@@ -140,13 +141,21 @@ module _ {t l : List ℕ} (laid : Laid t l) where
 -- A string that was looked up, and what it came to at a place.
 module _ {b : List ℕ} {at : ℕ} {p : Part} where
   pub told-string : (s : RefT (List ℕ)) (i : ℕ) {b′ : List ℕ} {start n end : ℕ} {text : RefT (List ℕ)} → p ≡ stringAt (now s) i → p ≡ Found start n
-      → CutOf text s start n → Wrote b at (now text) b′ end → ToldIs (nameOr5 (string (now s) i)) b at b′ (Name end)
+      → CutOf text s start n → Wrote b at (now text) b′ end → ToldIs (nameOrWhy (name (now s) i)) b at b′ (Name end)
   told-string s i {text = text} e f c w =
       let there = sym f ∙ e in
-      name (now text) (rw (string-some (now s) i there, ← (cut-is _ s _ _ (string-within (now s) i there) c .bytes)) refl) w
+      telling.name (now text) (rw (name-found (now s) i there, ← (cut-is _ s _ _ (string-within (now s) i there) c .bytes)) refl) w
 
-  pub told-absent : (s : List ℕ) (i : ℕ) {why : Reason} → p ≡ stringAt s i → p ≡ Absent why → ToldIs (nameOr5 (string s i)) b at b Missing
-  told-absent s i e f = missing (ap nameOr5 (string-none s i (sym f ∙ e))) (kept-same b at)
+  pub told-absent : (s : List ℕ) (i : ℕ) {why : Reason} → p ≡ stringAt s i → p ≡ Absent why → ToldIs (nameOrWhy (name s i)) b at b (Missing why)
+  told-absent s i e f = telling.missing (ap nameOrWhy (name-missing s i (sym f ∙ e))) (kept-same b at)
+
+-- Why it is missing.
+module _ (s : List ℕ) (i : ℕ) {p : Part} (e : p ≡ stringAt s i) where
+  pub no-reason : {start n : ℕ} → p ≡ Found start n → Untold ≡ reasonOf (name s i)
+  no-reason f = sym (ap reasonOf (name-found s i (sym f ∙ e)))
+
+  pub a-reason : {why : Reason} → p ≡ Absent why → why ≡ reasonOf (name s i)
+  a-reason f = sym (ap reasonOf (name-missing s i (sym f ∙ e)))
 
 -- Columns of one table have the same rows.
 pub same-rows : {t l : List ℕ} → Laid t l → (c d : ℕ) → c < columns.count → d < columns.count → readColumn c .kind ≡ readColumn d .kind → rowsAt l c ≡ rowsAt l d

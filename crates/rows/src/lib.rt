@@ -3,15 +3,15 @@
 // stand behind them, in the same slice.
 pub mod columns;
 
+use buffers::Reason;
 use buffers::Told;
 use heaps::Part;
 use numbers::wide;
 ghost use mathlib.Core.Path.{_≡_};
 ghost use Prim.Native.Nat.{_+_, _<_, _≤_};
 ghost use lib.ListN.{length};
-ghost use Rattle.buffers.specs.Replies.{nameOr5};
 ghost use Rattle.buffers.specs.Telling.{ToldIs};
-ghost use Rattle.heaps.specs.Lookups.{stringAt, string};
+ghost use Rattle.heaps.specs.Lookups.{stringAt, name, reasonOf, nameOrWhy};
 ghost use Rattle.rows.specs.Columns as columns;
 ghost use Rattle.rows.specs.Layout.{Laid, rowsAt, isMarked, heldStart, heldLength, heldAt, cell};
 
@@ -83,7 +83,7 @@ pub fn tell_string(
     requires { ⌜ Laid (now tables) (now layout) ⌝ }
     requires { ⌜ (column < columns.count) × (i < rowsAt (now layout) column) ⌝ }
     ensures { λ r.
-        ⌜ ToldIs (nameOr5 (string (now (strings .entry)) (cell (now (tables .entry)) (now (layout .entry)) column i))) (now (buf .entry)) at
+        ⌜ ToldIs (nameOrWhy (name (now (strings .entry)) (cell (now (tables .entry)) (now (layout .entry)) column i))) (now (buf .entry)) at
         (now (buf .exit)) r ⌝ }
 {
     match read_string(tables, strings, layout, column, i) {
@@ -91,6 +91,24 @@ pub fn tell_string(
             let text = numbers::cut(strings, start, len);
             Told::Name(buffers::push(buf, at, text))
         }
-        Part::Absent(_) => Told::Missing,
+        Part::Absent(why) => Told::Missing(why),
+    }
+}
+
+// Why it is missing; no reason is told where it is not.
+pub fn missing_reason(
+    tables: &[u8],
+    strings: &[u8],
+    layout: &[u32],
+    column: usize,
+    i: usize,
+) -> Reason
+    requires { ⌜ Laid (now tables) (now layout) ⌝ }
+    requires { ⌜ (column < columns.count) × (i < rowsAt (now layout) column) ⌝ }
+    ensures { λ r. ⌜ r ≡ reasonOf (name (now (strings .entry)) (cell (now (tables .entry)) (now (layout .entry)) column i)) ⌝ }
+{
+    match read_string(tables, strings, layout, column, i) {
+        Part::Found { start: _, len: _ } => Reason::Untold,
+        Part::Absent(why) => why,
     }
 }

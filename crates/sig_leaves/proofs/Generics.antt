@@ -54,6 +54,7 @@ module _ {t l : List ℕ} (laid : Laid t l) (strings blob : List ℕ) (k i : ℕ
     {b b′ : List ℕ} {at : ℕ} where
   pub said-owned : {row : ℕ} {o : Option ℕ} → r ≡ At row → Said b at b′ (string strings (cell t l columns.genericName row)) o
       → Said b at b′ (nameAt (viewIn t l strings blob .generics k) i) o
+  unfolding string
   said-owned e w = rw (generics-found laid strings blob k i _ found e .1) w
 
   pub said-unowned : r ≡ NoRow → Kept b at b′ → Said b at b′ (nameAt (viewIn t l strings blob .generics k) i) none

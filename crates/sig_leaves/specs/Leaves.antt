@@ -12,7 +12,7 @@ use Rattle.numbers.specs.Compressed.{uint}
 use Rattle.numbers.specs.declared.Uint.{Uint}
 use Rattle.numbers.specs.declared.Uint.the-variants.{Number, NoNumber}
 use Rattle.numbers.specs.Parts.{part}
-use Rattle.buffers.specs.Texts.{Text}
+use Rattle.heaps.specs.Lookups.{Name}
 use Rattle.record.specs.View.{View}
 use Rattle.record.specs.Types.{unless}
 use Rattle.sig_leaves.specs.declared.Owner.{Owner}
@@ -36,7 +36,7 @@ abbrev pub argumentCount : Reader ℕ
 argumentCount = upTo 1000
 
 -- The generic names of an owner, by the Owner column as stored.
-abbrev pub genericsOf : View → Owner → List (Option Text)
+abbrev pub genericsOf : View → Owner → List Name
 genericsOf v (Of k) = v .generics k
 genericsOf v Nobody = []
 

@@ -104,13 +104,24 @@ fn push_next(out: &mut [u8], at: usize, next: usize) -> usize {
     push_decimal(out, comma, next)
 }
 
-// The refusal of a raw lookup, 0 if there is none, and the part handed back. Both heaps are the same bytes.
+// The refusal of a raw lookup, 0 if there is none, with a point and the reason where one is told; and the part handed back. Both heaps are
+// the same bytes.
 fn push_lookup(out: &mut [u8], bytes: &[u8], heap: Heap, index: u32) -> usize {
     let mut refusal = 0;
-    let part = heaps::lookup(bytes, bytes, heap, index, &mut refusal);
+    let mut reason = 0;
+    let part = heaps::lookup(bytes, bytes, heap, index, &mut refusal, &mut reason);
     let number = push_decimal(out, 0, refusal as usize);
-    let at = put(out, number, b' ');
+    let told = push_reason(out, number, reason);
+    let at = put(out, told, b' ');
     push(out, at, part)
+}
+
+fn push_reason(out: &mut [u8], at: usize, reason: u8) -> usize {
+    if reason == 0 {
+        return at;
+    }
+    let point = put(out, at, b'.');
+    push_decimal(out, point, reason as usize)
 }
 
 // `5 + 3` for three bytes at place 5, or `absent`.

@@ -1,3 +1,4 @@
+use mathlib.Core.Path.{refl}
 use native.Mathlib.Omega.{arith}
 use Rattle.buffers.proofs.Telling.{told-name, told-missing, told-no-row}
 use Rattle.lines.proofs.Ending.{line-of-name, line-of-missing, line-of-none}
@@ -67,7 +68,7 @@ returns-2 c =
     let told = c .before .before .before .before .before .before .before .before .before .tell-name .ensures in
     let x = told-missing (rw (c .before .before .before .before .enum-told .given .1) at (told .0)) in (
       λ o key k.
-          let line = line-of-missing key (x .0) (c .before .before .end-missing .ensures _ _ _ _ k (x .1)) in
+          let line = line-of-missing key (x .0) refl (c .before .before .end-missing .ensures _ _ _ _ k (x .1)) in
           record { wrote = line .0; goes = goes-on _ _ (line .1) },
       told .1,
     )

@@ -16,16 +16,16 @@ finish-requires : tie.Need-finish-requires
 finish-requires c κs = search needs
 
 -- src/lib.rt:179:33
-enum-told : tie.Need-enum-told
-enum-told c = search needs
+enum-known-told-2 : tie.Need-enum-known-told-2
+enum-known-told-2 c = search needs
 
 -- src/lib.rt:179:26
 refuse-requires : tie.Need-refuse-requires
 refuse-requires c κs = search needs
 
 -- src/lib.rt:180:31
-enum-told-2 : tie.Need-enum-told-2
-enum-told-2 c = search needs
+enum-told : tie.Need-enum-told
+enum-told c = search needs
 
 -- src/lib.rt:180:24
 refuse-requires-2 : tie.Need-refuse-requires-2
@@ -46,7 +46,7 @@ same-length-2 c = search needs
 
 -- src/lib.rt:174:1
 returns-2 : tie.Need-returns-2
-returns-2 c = λ a b t. ends-missing (rw (c .before .before .before .before .enum-told .given .1) at t) (c .before .before .refuse .ensures)
+returns-2 c = λ a b t. ends-missing (rw (c .before .before .before .before .before .told2 .given .1) at t) (c .before .before .refuse .ensures)
 
 -- src/lib.rt:174:1
 same-length-3 : tie.Need-same-length-3
@@ -54,7 +54,7 @@ same-length-3 c = search needs
 
 -- src/lib.rt:174:1
 returns-3 : tie.Need-returns-3
-returns-3 c = λ a b t. ends-no-row (rw (c .before .before .before .before .enum-told2 .given .1) at t) (c .before .before .refuse2 .ensures)
+returns-3 c = λ a b t. ends-no-row (rw (c .before .before .before .before .enum-told .given .1) at t) (c .before .before .refuse2 .ensures)
 
 pub end-call-spec : {M : Type 1} → statement M
 end-call-spec =
@@ -62,9 +62,9 @@ end-call-spec =
     (tie.spec
     enum-known-told
     finish-requires
-    enum-told
+    enum-known-told-2
     refuse-requires
-    enum-told-2
+    enum-told
     refuse-requires-2
     same-length
     returns

@@ -11,8 +11,8 @@ enum-known-part : tie.Need-enum-known-part
 enum-known-part c = search needs
 
 -- src/lib.rt:67:28
-enum-told : tie.Need-enum-told
-enum-told c = search needs
+enum-known-part-2 : tie.Need-enum-known-part-2
+enum-known-part-2 c = search needs
 
 -- src/lib.rt:67:28
 no-part-requires : tie.Need-no-part-requires
@@ -24,7 +24,8 @@ returns c = rw (c .before .part .given .1)
 
 -- src/lib.rt:58:1
 returns-2 : tie.Need-returns-2
-returns-2 c = c .no-part .ensures ∙ rw (c .before .enum-told .given .1)
+returns-2 c = c .no-part .ensures ∙ rw (c .before .before .part2 .given .1)
 
 pub part-of-spec : {M : Type 1} → statement M
-part-of-spec = tie.close (tie.spec enum-known-part enum-told no-part-requires returns returns-2)
+part-of-spec =
+    tie.close (tie.spec enum-known-part enum-known-part-2 no-part-requires returns returns-2)

@@ -18,7 +18,7 @@ get-string-requires c κs = search needs
 
 -- src/lib.rt:108:13
 hand-requires : tie.Need-hand-requires
-hand-requires c κs = rw (c .before .get-string .ensures) (string-inside _ _)
+hand-requires c κs = rw (c .before .before .get-string .ensures) (string-inside _ _)
 
 -- src/lib.rt:111:37
 enum-told-2 : tie.Need-enum-told-2
@@ -30,15 +30,15 @@ get-blob-requires c κs = search needs
 
 -- src/lib.rt:112:13
 hand-requires-2 : tie.Need-hand-requires-2
-hand-requires-2 c κs = rw (c .before .get-blob .ensures) (blob-inside _ _)
+hand-requires-2 c κs = rw (c .before .before .get-blob .ensures) (blob-inside _ _)
 
 -- src/lib.rt:96:1
 returns : tie.Need-returns
-returns c = rw (c .before .before .before .enum-told .given .1) (rw (c .before .before .get-string .ensures) at (c .hand .ensures))
+returns c = rw (c .before .before .before .before .enum-told .given .1) (rw (c .before .before .before .get-string .ensures) at (c .hand .ensures))
 
 -- src/lib.rt:96:1
 returns-2 : tie.Need-returns-2
-returns-2 c = rw (c .before .before .before .enum-told2 .given .1) (rw (c .before .before .get-blob .ensures) at (c .hand2 .ensures))
+returns-2 c = rw (c .before .before .before .before .enum-told2 .given .1) (rw (c .before .before .before .get-blob .ensures) at (c .hand2 .ensures))
 
 pub lookup-spec : {M : Type 1} → statement M
 lookup-spec =

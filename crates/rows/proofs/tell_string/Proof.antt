@@ -25,8 +25,8 @@ push-requires : tie.Need-push-requires
 push-requires c κs = search needs
 
 -- src/lib.rt:77:28
-enum-told : tie.Need-enum-told
-enum-told c = search needs
+enum-known-why : tie.Need-enum-known-why
+enum-known-why c = search needs
 
 -- src/lib.rt:57:1
 same-length : tie.Need-same-length
@@ -44,8 +44,9 @@ returns c =
 -- src/lib.rt:57:1
 returns-2 : tie.Need-returns-2
 returns-2 c =
-    let at-read-string = c .before .before in
-    told-absent _ _ (at-read-string .read-string .ensures) (c .enum-told .given .1)
+    let at-why = c .before in
+    let at-read-string = at-why .before .before in
+    told-absent _ _ (at-read-string .read-string .ensures) (at-why .why .given .1)
 
 pub tell-string-spec : {M : Type 1} → statement M
 tell-string-spec =
@@ -55,7 +56,7 @@ tell-string-spec =
     enum-known-start
     cut-requires
     push-requires
-    enum-told
+    enum-known-why
     same-length
     returns
     returns-2)
