@@ -1,22 +1,26 @@
 -- Laws of the lookups. Assumes nothing.
-use mathlib.Core.Path.{_≡_, refl, sym, ap, subst, subst⁻¹}
+use mathlib.Core.Path.{_≡_, refl, sym, ap, ap₂, _∙_, subst, subst⁻¹}
 use mathlib.Core.List.{List, [], _∷_}
-use mathlib.Core.Bool.{cond}
+use mathlib.Core.Bool.{Bool, true, false, cond, not}
 use mathlib.Core.Option.{Option, none, some}
-use Prim.Native.Nat.{ℕ, zero, suc, _+_, _≤_, _<_, zero-le}
+use Prim.Native.Nat.{ℕ, zero, suc, _+_, _*_, _%_, _^_, _≤_, _<_, zero-le}
+use native.Mathlib.Nat.{add-zero}
 use native.Mathlib.Numerals.{add-one}
 use native.Mathlib.Omega.{arith}
 use borrow.Author.Tests.{eq-eqb, ne-eqb, lt-ltb, le-ltb, le-leb, lt-leb}
+use lib.Bits.{bitAnd, bitXor}
 use lib.ListN.{length, getD, drop, length-drop, drop-of-length-le}
 use lib.Seq.{drop-cons}
 use Rattle.numbers.specs.Reading.{Res, someAt, noneAt}
 use Rattle.numbers.specs.Compressed.{uint}
 use Rattle.numbers.specs.Parts.{part}
+use Rattle.numbers.specs.Fixed.{leAt}
+use Rattle.numbers.proofs.Words.{all, worth-le, none-is}
 use Rattle.numbers.proofs.Pick.{pick-lt, pick-le, pick-eq}
 use Rattle.buffers.specs.Replies.{reasonCode}
 use Rattle.buffers.specs.declared.Reason.{Reason}
 use Rattle.buffers.specs.declared.Reason.the-variants.{Untold, NullIndex, PastEnd, NoZero}
-use Rattle.heaps.specs.Lookups.{before, stringAt, bytesAt, blobAt, found, missing, name, string, partReason, Inside}
+use Rattle.heaps.specs.Lookups.{before, Without, stringAt, bytesAt, blobAt, found, missing, name, string, partReason, Inside}
 use Rattle.heaps.specs.declared.Part.{Part}
 use Rattle.heaps.specs.declared.Part.the-variants.{Found, Absent}
 
@@ -36,6 +40,31 @@ module _ (x : ℕ) (s : List ℕ) (i : ℕ) {e : ℕ} (inv : i + before x (drop 
     find-step n j next =
         let further : before x (drop i s) ≡ 1 + before x (drop j s) = rw (drop-cons s i 0 h, ne-eqb _ _ n, next, add-one i) (omega arith) in
         omega arith
+
+pub not-not : (b : Bool) → not b ≡ false → b ≡ true
+not-not true e = refl
+not-not false e = sym e
+
+-- Eight bytes, held against a byte, less 1 each.
+pub eight-without : (x : ℕ) (s : List ℕ) (at : ℕ) → at + 8 ≤ length s → x < 256 → ((i : ℕ) → getD s i 0 < 256) → {v w : ℕ} → v ≡ leAt 8 s at
+    → w < 2 ^ 64 → (w + all 1 8) % 2 ^ 64 ≡ bitXor v (0x0101_0101_0101_0101 * x) → bitAnd w (all 128 8) ≡ 0 → Without x s at 8
+eight-without x s at room h bytes e fits wraps clear =
+    let n : 0x0101_0101_0101_0101 * x ≡ all x 8 = omega arith in record {
+      room = room;
+      each = none-is (λ j. getD s j 0) at x h (λ k _. bytes (at + k)) fits (wraps ∙ ap₂ bitXor (e ∙ worth-le s 8 at) n) clear;
+    }
+
+-- So many bytes further, none of which is the one that is sought.
+pub find-past : (x : ℕ) (s : List ℕ) (n i : ℕ) {e : ℕ} → Without x s i n → i + before x (drop i s) ≡ e → i + n + before x (drop (i + n) s) ≡ e
+find-past x s zero i {e} h inv = subst (λ (j : ℕ). j + before x (drop j s) ≡ e) (sym (add-zero i)) inv
+find-past x s (suc n) i {e} h inv =
+    let next : i + 1 + n ≡ i + suc n = omega arith in
+    let one : getD s i 0 ≡ x → ⊥ = subst (λ (j : ℕ). getD s j 0 ≡ x → ⊥) (add-zero i) (h .each 0 (omega arith)) in
+    let more : Without x s (i + 1) n = record {
+      room = omega (arith, h .room);
+      each = λ k l. let f : i + suc k ≡ i + 1 + k = omega arith in subst (λ (j : ℕ). getD s j 0 ≡ x → ⊥) f (h .each (suc k) (omega arith));
+    } in
+    subst (λ (j : ℕ). j + before x (drop j s) ≡ e) next (find-past x s n (i + 1) more (find-step x s i inv (omega (arith, h .room)) one (i + 1) refl))
 
 pub before-most : (x : ℕ) (s : List ℕ) → before x s ≤ length s
 unfolding before

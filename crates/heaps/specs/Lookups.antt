@@ -3,10 +3,10 @@ use mathlib.Core.Path.{_≡_}
 use mathlib.Core.Bool.{cond}
 use mathlib.Core.List.{List, [], _∷_}
 use mathlib.Core.Option.{Option, none, some}
-use Prim.Native.Nat.{ℕ, zero, suc, _+_, _≤_}
+use Prim.Native.Nat.{ℕ, zero, suc, _+_, _≤_, _<_}
 use denote.Ref.{RefT, now}
 use lib.Dec.{ltb, leb, eqb}
-use lib.ListN.{length, drop}
+use lib.ListN.{length, getD, drop}
 use Rattle.numbers.specs.Compressed.{uint}
 use Rattle.numbers.specs.Parts.{part, PartOf}
 use Rattle.buffers.specs.Texts.{Text}
@@ -23,6 +23,11 @@ use Rattle.heaps.specs.declared.Part.the-variants.{Found, Absent}
 unfoldable pub before : ℕ → List ℕ → ℕ
 before x [] = zero
 before x (b ∷ s) = cond (eqb b x) zero (suc (before x s))
+
+-- That n bytes of a list are there, from a position on, and none of them is x.
+pub record Without (x : ℕ) (s : List ℕ) (at n : ℕ) : Type 0 where
+  pub room : at + n ≤ length s
+  pub each : (i : ℕ) → i < n → getD s (at + i) 0 ≡ x → ⊥
 
 -- The string at an index of the strings heap (`get_string`): the bytes up to the next zero byte. Tested in this order, it is absent
 -- for index 0, for an index at or past the end, and where no zero byte follows.

@@ -4,9 +4,10 @@ use buffers::Reason;
 use buffers::Refusal;
 use numbers::Uint;
 ghost use mathlib.Core.Path.{_≡_};
+ghost use mathlib.Core.Bool.{true};
 ghost use Prim.Native.Nat.{_+_};
 ghost use lib.ListN.{drop};
-ghost use Rattle.heaps.specs.Lookups.{before, stringAt, blobAt, Inside, Handed, Looked};
+ghost use Rattle.heaps.specs.Lookups.{before, Without, stringAt, blobAt, Inside, Handed, Looked};
 
 // Which heap is meant.
 pub enum Heap {
@@ -20,8 +21,44 @@ pub enum Part {
     Absent(Reason),
 }
 
-// The position of the first x at or after another, or the end. It looks at four bytes a turn, while there are four.
+// Bytes that are looked at in one turn; a number that has 1 in each of them, and one that has the highest bit.
+const TURN: usize = 8;
+
+const ONES: u64 = 0x0101_0101_0101_0101;
+
+const TOPS: u64 = 0x8080_8080_8080_8080;
+
+// Whether eight bytes are there and none is x, if that is seen of all at once: held against x, as one number, 1 can be taken from each, and
+// no byte gets its highest bit.
+fn none_is(s: &[u8], at: usize, x: u8) -> bool
+    ensures { λ r. ⌜ (r ≡ true → Without x (now (s .entry)) at 8) ⌝ }
+{
+    if s.len() < at {
+        return false;
+    }
+    if s.len() - at < TURN {
+        return false;
+    }
+    let against = numbers::read_eight(s, at) ^ (ONES * (x as u64));
+    std::num::wrapping_sub_u64(against, ONES) & TOPS == 0
+}
+
+// The position of the first x at or after another, or the end. It looks at eight bytes a turn, while none of them is seen to be x.
 pub fn find_byte(s: &[u8], from: usize, x: u8) -> usize
+    ensures { λ r. ⌜ r ≡ from + before x (drop from (now (s .entry))) ⌝ }
+{
+    let mut i = from;
+    while i < s.len() {
+        if !none_is(s, i, x) {
+            return find_near(s, i, x);
+        }
+        i += TURN;
+    }
+    i
+}
+
+// The same, four bytes a turn, while there are four.
+fn find_near(s: &[u8], from: usize, x: u8) -> usize
     ensures { λ r. ⌜ r ≡ from + before x (drop from (now (s .entry))) ⌝ }
 {
     let mut i = from;

@@ -17,13 +17,15 @@ ghost use Rattle.rows.specs.Columns as columns;
 ghost use Rattle.rows.specs.Layout.{Laid, viewIn};
 ghost use Rattle.answers.specs.Known.{Knows};
 
-// Bytes of a piece of the listing.
-const PIECE: usize = 32_768;
-
-// Words for the layout, and for the rows by key of every input that the program takes; and of one whose tables have at most so many bytes.
+// Words for the layout, and for the rows by key of every input that the program takes, and bytes of a piece of the listing; and both for
+// one whose tables have at most so many bytes.
 const WORDS: usize = 19_000;
 
+const PIECE: usize = 65_536;
+
 const FEW_WORDS: usize = 2_500;
+
+const FEW_PIECE: usize = 32_768;
 
 const FEW_BYTES: usize = 8_192;
 
@@ -77,11 +79,11 @@ fn write_pieces(
     blob: &[u8],
     options: Options,
     layout: &[u32],
+    space: &mut [u8],
 ) -> bool
     requires { ⌜ Laid (now tables) (now layout) ⌝ }
     requires { ⌜ ((s b : List ℕ) → viewIn (now tables) (now layout) s b ≡ view options (now tables) s b) ⌝ }
 {
-    let mut space = [0u8; PIECE];
     let mut cursor = lines::first_cursor();
     let mut known = answers::nothing_known();
     let mut turns: u64 = 0xFFFF_FFFF_FFFF_FFFF;
@@ -89,16 +91,7 @@ fn write_pieces(
         if listing_steps::is_done(cursor) {
             return true;
         }
-        let written = write_piece(
-            tables,
-            strings,
-            blob,
-            options,
-            layout,
-            cursor,
-            known,
-            &mut space,
-        );
+        let written = write_piece(tables, strings, blob, options, layout, cursor, known, space);
         if !written.whole {
             return false;
         }
@@ -117,16 +110,17 @@ fn write_held(
     options: Options,
     layout: &[u32],
     work: &mut [u32],
+    space: &mut [u8],
 ) -> bool
     requires { ⌜ Laid (now tables) (now layout) ⌝ }
     requires { ⌜ ((s b : List ℕ) → viewIn (now tables) (now layout) s b ≡ view options (now tables) s b) ⌝ }
     requires { ⌜ columns.size ≤ length (now work) ⌝ }
 {
     holding::hold(work, tables, layout);
-    write_pieces(tables, strings, blob, options, work)
+    write_pieces(tables, strings, blob, options, work, space)
 }
 
-// The same, with as many words as serve the tables.
+// The same, with as many words as serve the tables, and pieces to match.
 fn write_opened(
     tables: &[u8],
     strings: &[u8],
@@ -139,10 +133,20 @@ fn write_opened(
 {
     if tables.len() <= FEW_BYTES {
         let mut few = [0u32; FEW_WORDS];
-        return write_held(tables, strings, blob, options, layout, &mut few);
+        let mut short = [0u8; FEW_PIECE];
+        return write_held(tables, strings, blob, options, layout, &mut few, &mut short);
     }
     let mut work = [0u32; WORDS];
-    write_held(tables, strings, blob, options, layout, &mut work)
+    let mut space = [0u8; PIECE];
+    write_held(
+        tables,
+        strings,
+        blob,
+        options,
+        layout,
+        &mut work,
+        &mut space,
+    )
 }
 
 // The listing of three streams. The stream is opened once, and its columns are looked through once.

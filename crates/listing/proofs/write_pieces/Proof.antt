@@ -1,4 +1,4 @@
-use mathlib.Core.Path.{_≡_}
+use mathlib.Core.Path.{_≡_, refl}
 use lib.ListN.{length}
 use borrow.Author.Needs.{needs}
 use Rattle.rows.specs.Layout.{viewIn}
@@ -14,56 +14,64 @@ use Rattle.listing_steps.proofs.is_done.Reads as is-done-reads
 
 abbrev Inv-loop : tie.InvT-loop
 Inv-loop tables strings blob options layout space₀ cursor₀ known₀ turns₀ space cursor known turns =
-    Knows (viewIn tables layout strings blob) blob known × (length space ≡ 32_768)
+    Knows (viewIn tables layout strings blob) blob known × (length space ≡ length space₀)
 
 abbrev μ-loop : tie.MeasureT-loop
 μ-loop tables strings blob options layout space₀ cursor₀ known₀ turns₀ space cursor known turns = turns
 
--- src/main.rt:94:9
+-- src/main.rt:87:9
 first-cursor-requires : tie.Need-first-cursor-requires Inv-loop μ-loop
 first-cursor-requires c κs = search needs
 
--- src/main.rt:95:9
+-- src/main.rt:88:9
 nothing-known-requires : tie.Need-nothing-known-requires Inv-loop μ-loop
 nothing-known-requires c κs = search needs
 
--- src/main.rt:97:5
+-- src/main.rt:90:5
 loop-holds : tie.Need-loop-holds Inv-loop μ-loop
-loop-holds c = (c .nothing-known .ensures _ _, search needs)
+loop-holds c = (c .nothing-known .ensures _ _, refl)
 
--- src/main.rt:98:12
+-- src/main.rt:91:12
 is-done-requires : tie.Need-is-done-requires Inv-loop μ-loop
 is-done-requires c κs = search needs
 
--- src/main.rt:99:13
+-- src/main.rt:92:13
+same-length : tie.Need-same-length Inv-loop μ-loop
+same-length c = search (needs, c .before .before .before .loop .inv .1)
+
+-- src/main.rt:92:13
 returns : tie.Need-returns Inv-loop μ-loop
 returns c = tt
 
--- src/main.rt:109:13
-slice-aggregate-write-piece : tie.Need-slice-aggregate-write-piece Inv-loop μ-loop
-slice-aggregate-write-piece c = search (needs, c .before .before .before .before .loop .inv .1)
-
--- src/main.rt:101:13
+-- src/main.rt:94:13
 write-piece-requires : tie.Need-write-piece-requires Inv-loop μ-loop
-write-piece-requires c κs = (c .before .before .before .before .before .before .before .before .before .before .before .pre .0, (c .before .before .before .before .before .before .before .before .before .before .before .pre .1, c .before .before .before .before .loop .inv .0))
+write-piece-requires c κs = (c .before .before .before .before .before .before .before .before .before .before .before .before .pre .0, (c .before .before .before .before .before .before .before .before .before .before .before .before .pre .1, c .before .before .before .before .loop .inv .0))
 
--- src/main.rt:112:13
+-- src/main.rt:96:13
+same-length-2 : tie.Need-same-length-2 Inv-loop μ-loop
+same-length-2 c = search needs
+
+-- src/main.rt:96:13
 returns-2 : tie.Need-returns-2 Inv-loop μ-loop
 returns-2 c = tt
 
--- src/main.rt:116:9
+-- src/main.rt:100:9
 sub-turns : tie.Need-sub-turns Inv-loop μ-loop
 sub-turns c = search needs
 
--- src/main.rt:97:5
+-- src/main.rt:90:5
 loop-less : tie.Need-loop-less Inv-loop μ-loop
 loop-less c = search needs
 
--- src/main.rt:97:5
+-- src/main.rt:90:5
 loop-again : tie.Need-loop-again Inv-loop μ-loop
-loop-again c = (c .before .before .before .before .before .write-piece .ensures, search (needs, c .before .before .before .before .before .before .before .before .before .before .loop .inv .1))
+loop-again c = (c .before .before .before .before .before .before .write-piece .ensures, search (needs, c .before .before .before .before .before .before .before .before .before .before .before .loop .inv .1))
 
--- src/main.rt:83:1
+-- src/main.rt:76:1
+same-length-3 : tie.Need-same-length-3 Inv-loop μ-loop
+same-length-3 c = search needs
+
+-- src/main.rt:76:1
 returns-3 : tie.Need-returns-3 Inv-loop μ-loop
 returns-3 c = tt
 
@@ -77,11 +85,13 @@ write-pieces-spec =
     nothing-known-requires
     loop-holds
     is-done-requires
+    same-length
     returns
-    slice-aggregate-write-piece
     write-piece-requires
+    same-length-2
     returns-2
     sub-turns
     loop-less
     loop-again
+    same-length-3
     returns-3)
