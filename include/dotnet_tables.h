@@ -49,7 +49,7 @@ extern "C" {
 #endif
 
 /* The version of this interface, and that of the archive. What changes a signature, a struct or DN_LONGEST_LINE raises both. */
-#define DN_VERSION 3u
+#define DN_VERSION 4u
 uint32_t dn_version(void);
 
 /* What a refusal's number means. */
@@ -90,8 +90,8 @@ enum {
     DN_ASK_PARAM_NAME = 108
 };
 
-/* A buffer of so many bytes holds every line of a listing. */
-enum { DN_LONGEST_LINE = 4106 };
+/* A buffer of so many bytes holds every line of a listing: a key of 9, a value of 4,096 bytes that are written as three each, 0x0A. */
+enum { DN_LONGEST_LINE = 12298 };
 
 /* The three streams and the options, and the seven leading arguments that they make. */
 typedef struct dn_streams {
@@ -262,7 +262,12 @@ dn_reply dn_ask_name(const uint8_t *tables, size_t tables_len, const uint8_t *st
  * with the cursor of the piece before, until it is done. A buffer that does not hold the next line gets 0 bytes and the same cursor;
  * DN_LONGEST_LINE bytes always suffice. A piece takes at most 65,536 steps, some of which add no line: so it may leave room in a large
  * buffer, or have 0 bytes, and still get on. Any numbers are a cursor, and a place that there is not is the end. A stream that is refused
- * has one line, `refused=` and the number. A name in a line may have the byte 0x0A too.
+ * has one line, `refused=` and the number.
+ *
+ * A line is a key, a value and the byte 0x0A. In the value each byte below 0x22, above 0x7E, or equal to 0x25 is written as a percent sign
+ * and two upper-case hex digits, every other byte as it stands: so no value ends its line, and no two print alike. A name of more than
+ * 4,096 bytes, counted before this writing, is `!`, which no other value is; a missing one is empty. The calls for names give the bytes as
+ * they stand.
  *
  * The words are there for speed alone: the rows of a class are found by them without a search. Any number of words will do, 0 too, and
  * whatever they hold; the piece is the same, and after the call every word is 0. 19,000 words serve every input of 65,536 bytes. In

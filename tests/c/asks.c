@@ -10,7 +10,7 @@
    file cannot be read. */
 #include <stdarg.h>
 #include "calls.h"
-#include "recorded.h"
+#include "listed.h"
 
 #define COUNT(array) (sizeof(array) / sizeof *(array))
 
@@ -20,8 +20,6 @@ static const uint32_t words[] = {0, 1, 2, 4, 0x80000000, UINT32_MAX}; /* options
 static const size_t rooms[] = {0, 3, 40, 4096};                       /* bytes of a buffer for a name */
 static const uint32_t no_questions[] = {0, 9, 100, 109, 257, 65537, 0x80000001, UINT32_MAX};
 static const uint32_t no_places[] = {13, 256, 65536, UINT32_MAX};
-static const char *const keys[] = {"stop=", "classes=", "class=", "flags=", "generic=", "base=", "method=", "mflags=", "mgeneric=",
-                                   "returns=", "ptype=", "pname="};
 static const dn_cursor start;
 
 static size_t number; /* of the case, from 0 */
@@ -157,18 +155,10 @@ static int is_nothing(dn_piece p, size_t room, dn_cursor from) {
     return is_piece(p, room) && !p.used && !p.done && same_cursor(p.next, from);
 }
 
-static int is_key(size_t at) {
-    for (size_t i = 0; i < COUNT(keys); i++)
-        if (text.len - at >= strlen(keys[i]) && !memcmp(text.at + at, keys[i], strlen(keys[i]))) return 1;
-    return 0;
-}
-
-/* The bytes of the line at a place of the text. A name may have line ends in it, so it goes on to one that a key follows. */
+/* The bytes of the line at a place of the text. No value has a line end in it. */
 static size_t line_at(size_t at) {
     size_t end = at;
-    do
-        while (end < text.len && text.at[end++] != '\n') {}
-    while (end < text.len && !is_key(end));
+    while (end < text.len && text.at[end++] != '\n') {}
     return end - at;
 }
 
@@ -244,22 +234,11 @@ static void check_nulls(void) {
 
 /* ---- cases */
 
-/* Places the streams of an input. One that is no bundle, refusal 8, never reaches the library. */
-static int open_streams(bytes input) {
-    size_t t, s, b;
-    int head;
-    if (text.len == 10 && !memcmp(text.at, "refused=8\n", 10)) return 0;
-    if (sscanf((char *)input.at, "tables=%zu\nstrings=%zu\nblob=%zu%n", &t, &s, &b, &head) != 3) return 0;
-    const uint8_t *at = input.at + head + 1;
-    in = (struct input){{at, t}, {at + t, s}, {at + t + s, b}, 0};
-    return (size_t)head + 1 + t + s + b == input.len;
-}
-
 static void each_case(bytes file, void (*look)(void)) {
     bytes input;
     size_t at = 0;
     for (number = 0; next_case(file, &at, &input, &text); number++)
-        if (open_streams(input)) look();
+        if (open_streams(input, text, &in)) look();
 }
 
 static void ask_questions(bytes file) { each_case(file, check_questions); }

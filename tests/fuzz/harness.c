@@ -475,13 +475,10 @@ static dn_piece list(dn_cursor from, size_t length, int fill) {
 
 /* The line at a cursor is longer than what was left of a buffer, and one that is a byte shorter gets nothing. */
 static void check_line(dn_cursor at, size_t left) {
-    dn_piece line = { 0, 0, at };
     size_t n = 0, most = list(at, DN_LONGEST_LINE, 0xAA).used;
     memcpy(seen, lent.end - DN_LONGEST_LINE, most);
-    while (n < most && !line.used) { /* a name may have line ends in it */
-        while (n < most && seen[n++] != '\n') {}
-        line = list(at, n, 0xAA);
-    }
+    while (n < most && seen[n++] != '\n') {} /* no value has a line end in it */
+    dn_piece line = list(at, n, 0xAA);
     if (!line.used) {
         report("no line where a piece ends");
         return;

@@ -32,13 +32,23 @@ static uint64_t number_of(struct listing *to, int call, const uint32_t *r) {
     return reply.refusal ? 0 : reply.value;
 }
 
+/* A value as it is written: a byte below 0x22, above 0x7E, or equal to 0x25 as a percent sign and two digits. */
+static void put_value(struct listing *to, const uint8_t *value, size_t n) {
+    static const char digits[] = "0123456789ABCDEF";
+    for (size_t i = 0; i < n; i++) {
+        uint8_t b = value[i];
+        if (b < 0x22 || b > 0x7E || b == '%') put(to, (const char[]){ '%', digits[b / 16], digits[b % 16] }, 3);
+        else put(to, value + i, 1);
+    }
+}
+
 /* A line with a name: 5 is the key alone, 6 a name that is too long. */
 static void put_name(struct listing *to, const char *key, int call, const uint32_t *r) {
     uint8_t value[LONGEST];
     dn_reply reply = calls[call].ask(to->in, r, (struct buffer){ value, sizeof value });
     put(to, key, strlen(key));
     if (reply.refusal == DN_BUFFER_TOO_SMALL) put(to, "!", 1);
-    if (!reply.refusal) put(to, value, reply.value);
+    if (!reply.refusal) put_value(to, value, reply.value);
     put(to, "\n", 1);
 }
 

@@ -43,6 +43,20 @@ def damaged_lengths(dice, case):
     return case[:at] + dice.pick([b"0", b"1", b"9", b"\n", b"=", b" "]) + case[at:]
 
 
+# Bytes on both sides of those that a listing writes as they stand.
+EDGES = bytes([0x01, 0x0A, 0x20, 0x21, 0x22, 0x24, 0x25, 0x26, 0x7E, 0x7F, 0x80, 0xFF])
+
+
+def renamed(dice, case):
+    """A copy of an input with other bytes in its names, which are as long as they were."""
+    if not is_formed(case):
+        return case
+    tables, strings, blob = streams(case)
+    often = dice.pick([2, 8, 32])
+    names = bytes(dice.pick(EDGES) if byte and dice.one_in(often) else byte for byte in strings)
+    return bundle(tables, names, blob)
+
+
 def some_stream(dice, three):
     return dice.pick([three[0], three[0], three[0], three[1], three[2], three[2]])
 
@@ -185,7 +199,7 @@ def is_listed(owner_column, extents):
 
 
 def printed(strings, index):
-    """A string as a listing prints it: a missing one is like an empty one, and long ones are alike."""
+    """What a listing tells of a string: a missing one prints like an empty one, and long ones print alike; no other two do."""
     end = strings.find(b"\0", index) if 0 < index < len(strings) else -1
     name = strings[index:end] if end >= 0 else b""
-    return name if len(name) <= LONGEST else b"!"
+    return name if len(name) <= LONGEST else None

@@ -16,7 +16,7 @@ ghost use Rattle.record.specs.Answers.{numberAnswer, nameAnswer};
 ghost use Rattle.rows.specs.Layout.{Laid, viewIn};
 ghost use Rattle.questions.specs.Questions.{numberCall, nameCall};
 ghost use Rattle.answers.specs.Known.{Knows};
-ghost use Rattle.lines.specs.Lines.{longest, answerLine, nameLine, hasLine};
+ghost use Rattle.lines.specs.Lines.{nameRoom, answerLine, nameLine, hasLine};
 ghost use Rattle.lines.specs.Cursors.{Went};
 
 // A step of the listing, and what is known after it.
@@ -68,7 +68,7 @@ pub fn name_line(
 ) -> Onward
     requires { ⌜ Laid (now tables) (now layout) ⌝ }
     requires { ⌜ Knows (viewIn (now tables) (now layout) (now strings) (now blob)) (now blob) known ⌝ }
-    requires { ⌜ start + longest ≤ length (now out) ⌝ }
+    requires { ⌜ start + nameRoom ≤ length (now out) ⌝ }
     ensures { λ r. let v = viewIn (now (tables .entry)) (now (layout .entry)) (now (strings .entry)) (now (blob .entry)) in
         let a = nameAnswer (nameCall question) v in
         ⌜ ((o : List ℕ) (key : Text) → Wrote o at key (now (out .entry)) start → Went (nameLine key a) (cond (hasLine a) more past) o at

@@ -19,7 +19,7 @@ use Rattle.c_replies.specs.declared.DnExtent.{DnExtent}
 
 -- The version of the interface, DN_VERSION in the header: whatever changes a signature, a struct or the longest line raises both.
 abbrev pub theVersion : ℕ
-theVersion = 3
+theVersion = 4
 
 -- An answer: its value and 0, or 0, the number that says no and the reason beside it.
 abbrev pub told : Answer ℕ → DnReply

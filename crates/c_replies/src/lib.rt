@@ -37,7 +37,7 @@ pub struct DnExtent {
 }
 
 // The version of the interface, DN_VERSION in the header.
-const VERSION: u32 = 3;
+const VERSION: u32 = 4;
 
 pub fn version() -> u32
     ensures { λ r. ⌜ r ≡ theVersion ⌝ }

@@ -1,7 +1,7 @@
 -- How the line of a name or of a number ends, behind its key.
 --     then-line                                      something is written behind the key
---     ends-long, ends-short                          the line of a name, by its length
---     is-long, is-short                              the length, by where the name begins and ends
+--     ends-long, ends-short                          the line of a name, by its length: the mark, or the name as it is written
+--     is-long                                        the length, by where the name begins and ends
 --     line-of-name, line-of-missing, line-of-none    the line of an answer, and whether there is one
 -- Assumes nothing.
 use mathlib.Core.Path.{_≡_}
@@ -11,16 +11,18 @@ use Prim.Native.Nat.{ℕ, _+_, _-_, _≤_, _<_}
 use native.Mathlib.Omega.{arith}
 use borrow.Author.Tests.{le-leb, lt-leb}
 use lib.ListN.{length}
+use Rattle.numbers.specs.Parts.{part}
 use Rattle.buffers.specs.Texts.{Text, q}
 use Rattle.buffers.specs.Writes.{Wrote, Kept}
 use Rattle.buffers.specs.Replies.{number, Refused, Answer, refused, refusedBy, value}
 use Rattle.buffers.specs.declared.Refusal.the-variants.{NoSuchRow, NoName}
 use Rattle.buffers.specs.declared.Reason.the-variants.{Untold}
-use Rattle.buffers.proofs.Writing.{wrote-then, wrote-kept, kept-wrote, wrote-anew}
-use Rattle.lines.specs.Lines.{longest, line, shown, missingLine, nameLine, hasLine}
+use Rattle.buffers.proofs.Writing.{wrote-then, wrote-kept, kept-wrote, wrote-anew, wrote-part}
+use Rattle.escapes.specs.Escapes.{escaped, longest, shown}
+use Rattle.lines.specs.Lines.{nameRoom, line, missingLine, nameLine, hasLine}
 
 -- What is shown of a name, by its length.
-shown-short : (t : Text) → length t ≤ longest → shown t ≡ t
+shown-short : (t : Text) → length t ≤ longest → shown t ≡ escaped t
 unfolding shown
 shown-short t h = rw (le-leb _ _ h)
 
@@ -38,16 +40,21 @@ module _ {o o₁ o₂ : List ℕ} {at start end : ℕ} {key t : Text} (k : Wrote
   pub ends-long : {o₃ : List ℕ} {at′ : ℕ} → longest < length t → Wrote o₂ start (q "!\n") o₃ at′ → Wrote o at (line key (shown t)) o₃ at′
   ends-long h x = rw (shown-long t h) (then-line k (w .keeps) (q "!") x)
 
-  pub ends-short : {o₃ : List ℕ} {at′ : ℕ} → length t ≤ longest → Wrote o₂ end (0x0A ∷ []) o₃ at′ → Wrote o at (line key (shown t)) o₃ at′
-  unfolding line
-  ends-short h x = rw (shown-short t h) (wrote-then k (wrote-then w x))
-
   -- How long the name is, where there is room for the longest.
-  pub is-long : start + longest ≤ length o₂ → longest < end - start → longest < length t
+  pub is-long : start + nameRoom ≤ length o₂ → longest < end - start → longest < length t
   is-long h f = omega (arith, w .place, w .keeps .long)
 
-  pub is-short : start + longest ≤ length o₂ → end - start ≤ longest → length t ≤ longest
-  is-short h f = omega (arith, w .place, w .keeps .long)
+  module _ (room : start + nameRoom ≤ length o₂) (f : end - start ≤ longest) where
+    is-short : length t ≤ longest
+    is-short = omega (arith, w .place, w .keeps .long)
+
+    pub ends-short : {o₃ o₄ : List ℕ} {after at′ : ℕ} → Wrote o₂ start (escaped (part o₂ start (end - start))) o₃ after
+        → Wrote o₃ after (0x0A ∷ []) o₄ at′ → Wrote o at (line key (shown t)) o₄ at′
+    unfolding line
+    ends-short {o₃} {after = after} v x =
+        let is : part o₂ start (end - start) ≡ t = wrote-part w (omega (arith, is-short, room, w .keeps .long)) in
+        let e : Wrote o₂ start (escaped t) o₃ after = rw is at v in
+        rw (shown-short t is-short) (wrote-then k (wrote-then (wrote-anew (w .keeps) e) x))
 
 -- The line of an answer, and whether there is one.
 module _ (key : Text) {a : Answer Text} {o o′ : List ℕ} {at at′ : ℕ} where

@@ -9,6 +9,7 @@ use Rattle.buffers.proofs.Writing.{wrote-then, wrote-anew}
 use Rattle.buffers.specs.declared.Refusal.{Refusal}
 use Rattle.buffers.specs.declared.Reply.{Reply}
 use Rattle.buffers.specs.declared.Reply.the-variants.{Is, No}
+use Rattle.escapes.proofs.Apart.{numbers-stand}
 use Rattle.lines.specs.Lines.{line, refusedLine, answerLine}
 use Rattle.lines.specs.Cursors.{Went}
 use Rattle.lines.specs.declared.Cursor.{Cursor}
@@ -18,7 +19,7 @@ module _ {p : Reply} {next : Cursor} {o o₁ : List ℕ} {at start : ℕ} {key :
   pub number-goes : {o₂ o₃ : List ℕ} {n end e : ℕ} → p ≡ Is n → Wrote o₁ start (decimal n) o₂ end → Wrote o₂ end (0x0A ∷ []) o₃ e
       → Went (answerLine key (replySays p)) next o at o₃ (record { next = next; at = e })
   unfolding line
-  number-goes f d w = rw f (record { wrote = wrote-then k (wrote-then d w); goes = refl })
+  number-goes {n = n} f d w = rw (f, numbers-stand n) (record { wrote = wrote-then k (wrote-then d w); goes = refl })
 
   pub refused-goes : {o₂ : List ℕ} {e : ℕ} {why : Refusal} → p ≡ No why → Wrote o₁ at [] o₂ e
       → Went (answerLine key (replySays p)) next o at o₂ (record { next = next; at = e })

@@ -2,3 +2,4 @@ pub mod Laws
 pub mod Stepping
 pub mod Ending
 pub mod Reasons
+pub mod Breaks

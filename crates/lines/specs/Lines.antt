@@ -1,35 +1,33 @@
--- The lines of the listing (document 01, "The listing program"): a key, a value, and the byte 0x0A.
+-- The lines of the listing (document 01, "The listing program"): a key, a value, and the byte 0x0A. How a value is written stands in
+-- escapes/Escapes (2026-05).
 use mathlib.Core.Bool.{Bool, true, cond, _||_}
 use mathlib.Core.List.{[], _∷_, _++_}
 use mathlib.Core.Option.{Option, none, some}
 use Prim.Native.Nat.{ℕ, _+_}
-use lib.Dec.{eqb, leb}
-use lib.ListN.{length}
+use lib.Dec.{eqb}
 use Rattle.buffers.specs.Texts.{Text, q, decimal}
 use Rattle.buffers.specs.Replies.{number, Answer, refused, value}
 use Rattle.buffers.specs.declared.Reason.the-variants.{Untold}
 use Rattle.buffers.specs.declared.Refusal.the-variants.{NoName, BufferTooSmall}
+use Rattle.escapes.specs.Escapes.{escaped, longest, shown}
 
 unfoldable pub line : Text → Text → Text
 line key t = key ++ (t ++ (0x0A ∷ []))
 
 -- A number in decimal.
 abbrev pub numberLine : Text → ℕ → Text
-numberLine key n = line key (decimal n)
+numberLine key n = line key (escaped (decimal n))
 
--- A name as it stands; `!` where it is longer than 4,096 bytes.
-abbrev pub longest : ℕ
-longest = 4096
-
--- No key of a name has more bytes than this; and so no line of a name more than that.
+-- The room in which the length of any name is seen before it is written as a value: its key has at most so many bytes, and behind it there
+-- are eight, by which the writing is seen to change nothing.
 abbrev pub longestKey : ℕ
 longestKey = 16
 
-abbrev pub lineRoom : ℕ
-lineRoom = longestKey + longest + 1
+abbrev pub nameRoom : ℕ
+nameRoom = longest + 8
 
-unfoldable pub shown : Text → Text
-shown t = cond (leb (length t) longest) t (q "!")
+abbrev pub lineRoom : ℕ
+lineRoom = longestKey + nameRoom
 
 -- A name that may be missing: then the key alone.
 abbrev pub valueLine : Text → Option Text → Text

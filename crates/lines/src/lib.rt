@@ -1,5 +1,6 @@
 // The lines of the listing, appended to a lent buffer, and the cursor that goes from line to line (document 01, "The listing program"). A
-// name's line is ended where the name was written, behind its key: a name that is too long is taken back there.
+// name's line is ended where the name was written, behind its key: a name that is too long is taken back there, and any other is written
+// as a value.
 use buffers::Refusal;
 use buffers::Reply;
 use buffers::push;
@@ -14,7 +15,8 @@ ghost use lib.ListN.{length};
 ghost use Rattle.buffers.specs.Texts.{Text};
 ghost use Rattle.buffers.specs.Writes.{Wrote, Kept};
 ghost use Rattle.buffers.specs.Replies.{number, replySays};
-ghost use Rattle.lines.specs.Lines.{line, longest, shown, numberLine, refusedLine, answerLine};
+ghost use Rattle.escapes.specs.Escapes.{shown};
+ghost use Rattle.lines.specs.Lines.{line, nameRoom, numberLine, refusedLine, answerLine};
 ghost use Rattle.lines.specs.Cursors.{cursor, first, done, nextNumber, Went};
 
 // What ends a line.
@@ -23,8 +25,8 @@ const LINE_END: u8 = b'\n';
 // The bytes of the longest name that is shown. For a longer one there stands `!`.
 const LONGEST: usize = 4096;
 
-// Room for any line of a name: its key, the name, and the line's end.
-pub const LINE_ROOM: usize = 4113;
+// Room for a key, any name that is not too long, and eight bytes. Written as a value the name may need more.
+pub const LINE_ROOM: usize = 4120;
 
 // What the next line is about.
 pub enum Place {
@@ -116,9 +118,10 @@ pub fn push_number(out: &mut [u8], at: usize, key: &[u8], n: usize) -> usize
     put(out, end, LINE_END)
 }
 
-// End the line of a name that was written from one place to another, behind its key. There is room for a name that is not too long.
+// End the line of a name that was written as it stands from one place to another, behind its key. There is room for a name that is not too
+// long.
 pub fn end_name(out: &mut [u8], start: usize, end: usize) -> usize
-    requires { ⌜ (start + longest ≤ length (now out)) × (start ≤ end) ⌝ }
+    requires { ⌜ (start + nameRoom ≤ length (now out)) × (start ≤ end) ⌝ }
     ensures { λ r.
         ⌜ ((o o₁ : List ℕ) (at : ℕ) (key t : Text) → Wrote o at key o₁ start → Wrote o₁ start t (now (out .entry)) end → Wrote o at
         (line key (shown t)) (now (out .exit)) r) ⌝ }
@@ -126,7 +129,8 @@ pub fn end_name(out: &mut [u8], start: usize, end: usize) -> usize
     if LONGEST < end - start {
         return push(out, start, b"!\n");
     }
-    put(out, end, LINE_END)
+    let after = escapes::escape(out, start, end);
+    put(out, after, LINE_END)
 }
 
 // End the line of a name that is missing: its key stands alone.

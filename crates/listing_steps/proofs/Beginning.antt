@@ -13,7 +13,7 @@ use Rattle.record.specs.Answers.{numberAnswer, nameAnswer}
 use Rattle.questions.specs.Questions.{numberCall, nameCall}
 use Rattle.questions.specs.declared.NumberQuestion.{NumberQuestion}
 use Rattle.questions.specs.declared.NameQuestion.{NameQuestion}
-use Rattle.lines.specs.Lines.{longest, lineRoom, answerLine, nameLine, hasLine}
+use Rattle.lines.specs.Lines.{nameRoom, lineRoom, answerLine, nameLine, hasLine}
 use Rattle.lines.specs.Cursors.{cursor, lineAt, nextAt, Went, Stepped}
 use Rattle.lines.specs.declared.Place.{Place}
 use Rattle.lines.specs.declared.Place.the-variants as place
@@ -74,9 +74,9 @@ module _ (c : Cursor) {l : Line} {o o′ o″ : List ℕ} {at : ℕ} {s : Step} 
 
 -- There is room for a name behind its key.
 module _ {c : Cursor} {o o′ : List ℕ} {at start : ℕ} {question : NameQuestion} {more past : Cursor} where
-  room-behind : {v : View} → Begun v c o at o′ (Name start question more past) → at + lineRoom ≤ length o → start + longest ≤ length o′
+  room-behind : {v : View} → Begun v c o at o′ (Name start question more past) → at + lineRoom ≤ length o → start + nameRoom ≤ length o′
   room-behind (name key l w h) room = omega (arith, l, w .place, w .keeps .long)
 
   pub name-room : {v w : View} → v ≡ w → {l : Line} → ((v : View) → Begun v c o at o′ l) → l ≡ Name start question more past
-      → at + lineRoom ≤ length o → start + longest ≤ length o′
+      → at + lineRoom ≤ length o → start + nameRoom ≤ length o′
   name-room {v} same b e room = room-behind (subst (Begun v c o at o′) e (b v)) room

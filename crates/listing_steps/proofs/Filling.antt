@@ -111,7 +111,7 @@ module _ {v : View} {p : Piece} {b b′ : List ℕ} {c : Cursor} {at steps : ℕ
               ∙ g .rest;
         }
 
--- One step that was taken in a space of its own: its line was made there, or is too long for any line of a name.
+-- One step that was taken in a space of its own: its line was made there, or is longer than that space, and so than what is left.
 nothing-left : (left at n : ℕ) → (0 < left → n < at + n) → (0 < at → left < 1) → left ≤ 0
 nothing-left zero at n f g = omega arith
 nothing-left (suc left) at n f g = absurd (omega (arith, g (omega (arith, f (omega arith)))))

@@ -74,7 +74,7 @@ pub record Going (v : View) (p : Piece) (b b′ : List ℕ) (c : Cursor) (at ste
   pub fits : length text ≤ length b
   pub rest : pieceFrom v (length b) steps text c ≡ p
 
--- Some of the steps of a piece were taken, as long as there was room for any line.
+-- Some of the steps of a piece were taken, as long as there was room for any name as it stands.
 pub record Reaches (v : View) (c : Cursor) (steps : ℕ) (b b′ : List ℕ) (r : Reached) : Type 0 where
   pub going : Going v (pieceFrom v (length b) steps [] c) b b′ (r .step .next) (r .step .at) (r .left)
   pub room : 0 < r .left → length b < r .step .at + lineRoom

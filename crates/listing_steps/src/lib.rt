@@ -1,5 +1,5 @@
 // The listing step by step: the line at each place of the cursor, and as many lines as a buffer holds, over a stream that is opened. Most
-// lines are written where they belong. Where there is less room than the line of a name may take, each is made elsewhere first.
+// lines are written where they belong. Where there is less room than a name may take as it stands, each is made elsewhere first.
 use answer_lines::Onward;
 use answer_lines::name_line;
 use answer_lines::number_line;
@@ -192,8 +192,8 @@ fn begin_line(out: &mut [u8], at: usize, c: Cursor) -> Line
     }
 }
 
-// One step over an opened stream: the line at a cursor is appended, if it has one, and the next cursor handed out. There is room for the
-// line of any name.
+// One step over an opened stream: the line at a cursor is appended, if it has one, and the next cursor handed out. There is room for any
+// name as it stands.
 fn next_line(
     tables: &[u8],
     strings: &[u8],
@@ -259,8 +259,8 @@ fn next_line(
     }
 }
 
-// At most so many steps, while there is room for any line. Whoever goes on from there hands on what is known. The cursor's parts are kept
-// apart: a cursor that is copied is copied with the bytes between them.
+// At most so many steps, while there is room for any name as it stands, and the line that it makes fits. Whoever goes on from there hands
+// on what is known. The cursor's parts are kept apart: a cursor that is copied is copied with the bytes between them.
 pub fn fill_lines(
     tables: &[u8],
     strings: &[u8],

@@ -1,5 +1,5 @@
--- No line is longer than the longest: a key has at most nine bytes, a name that is shown at most 4,096, and a number ten digits, since
--- none needs more than 32 bits. Assumes nothing.
+-- No line is longer than the longest: a key has at most nine bytes, a name that is shown at most 4,096, each of them written as three at
+-- most, and a number ten digits, since none needs more than 32 bits. Assumes nothing.
 use mathlib.Core.Path.{_≡_, refl}
 use mathlib.Core.List.{List, [], _∷_, _++_}
 use mathlib.Core.Option.{Option, none, some}
@@ -30,7 +30,9 @@ use Rattle.record.specs.Names.{classes, sizesOf, numberIn}
 use Rattle.record.specs.Methods.{leftAfter}
 use Rattle.record.specs.Record.{Method, Class, method, class, classRecord}
 use Rattle.record.specs.Answers.{_⟫_, ready, orNoRow, item, theClasses, theClass, theMethod, classCount, classFlags, className, genericName, baseName, methodName, methodFlags, methodGenericName, returnType, parameterType, parameterName}
-use Rattle.lines.specs.Lines.{line, longest, shown, numberLine, answerLine, missingLine, nameLine}
+use Rattle.escapes.specs.Escapes.{longest, shown}
+use Rattle.escapes.proofs.Apart.{numbers-stand, three-at-most}
+use Rattle.lines.specs.Lines.{line, numberLine, answerLine, missingLine, nameLine}
 use Rattle.lines.specs.Cursors.{stopLine, placeLine, lineAt}
 use Rattle.lines.specs.declared.Place.{Place}
 use Rattle.lines.specs.declared.Place.the-variants as at
@@ -59,19 +61,21 @@ unfolding decimal
 decimal-few n h = digits-few 9 (suc n) n (omega arith)
 
 module _ (key : Text) (short : length key ≤ 9) where
-  line-fits : (t : Text) → length t ≤ longest → Fits (line key t)
+  line-fits : (t : Text) → length t ≤ 3 * longest → Fits (line key t)
   unfolding line
   line-fits t h = omega (arith, length-append key (t ++ (0x0A ∷ [])), length-append t (0x0A ∷ []))
 
   name-fits : (a : Answer Text) → Fits (nameLine key a)
   unfolding shown missingLine
-  name-fits (value t) = line-fits (shown t) (pick-le (λ (x : Text). length x ≤ longest) (length t) longest (λ h. h) (λ _. omega arith))
+  name-fits (value t) =
+      line-fits (shown t)
+      (pick-le (λ (x : Text). length x ≤ 3 * longest) (length t) longest (λ h. omega (arith, three-at-most t)) (λ _. omega arith))
   name-fits (refused w) =
       pick Fits (eqb (w .number) (number (NoName Untold))) (λ _. line-fits [] (omega arith))
       (λ _. pick Fits (eqb (w .number) (number BufferTooSmall)) (λ _. line-fits (q "!") (omega arith)) (λ _. omega arith))
 
   number-fits : (n : ℕ) → Narrow n → Fits (numberLine key n)
-  number-fits n h = line-fits (decimal n) (omega (arith, decimal-few n h))
+  number-fits n h = rw (numbers-stand n) (line-fits (decimal n) (omega (arith, decimal-few n h)))
 
 -- ---- Where the walk stops, and refusals
 

@@ -3,14 +3,15 @@
 use mathlib.Core.Path.{_≡_}
 use mathlib.Core.Bool.{true, false, cond}
 use mathlib.Core.List.{List, [], _++_}
-use Prim.Native.Nat.{ℕ, zero, suc, _+_, _≤_, _<_}
+use Prim.Native.Nat.{ℕ, zero, suc, _+_, _*_, _≤_, _<_}
 use lib.ListN.{length, getD}
 use Rattle.buffers.specs.Texts.{Text, q}
 use Rattle.buffers.specs.Replies.{number}
 use Rattle.buffers.specs.declared.Refusal.the-variants.{BadInput}
 use Rattle.header.specs.Stream.{base}
 use Rattle.record.specs.View.{View, view}
-use Rattle.lines.specs.Lines.{longest, refusedLine}
+use Rattle.escapes.specs.Escapes.{longest}
+use Rattle.lines.specs.Lines.{refusedLine}
 use Rattle.lines.specs.Listing.{listing, listingOf}
 use Rattle.lines.specs.Cursors.{first, done, lineAt, Steps}
 use Rattle.lines.specs.declared.Cursor.{Cursor}
@@ -48,9 +49,9 @@ WrittenBegins = (input : List ℕ) (room n : ℕ) → Begun (listingOf input) (w
 abbrev pub Bytes : List ℕ → Type 0
 Bytes s = (i : ℕ) → getD s i 0 < 256
 
--- The longest line, 4,106 bytes: the longest key, the longest value, and the byte 0x0A.
+-- The longest line, 12,298 bytes: the longest key, the longest value with each of its bytes written as three, and the byte 0x0A.
 abbrev pub longestLine : ℕ
-longestLine = length (q "mgeneric=") + longest + 1
+longestLine = length (q "mgeneric=") + 3 * longest + 1
 
 abbrev pub LinesFit : Type 0
 LinesFit = (tables strings blob : List ℕ) (c : Cursor) → Bytes tables → length (lineAt (view base tables strings blob) c) ≤ longestLine

@@ -83,10 +83,18 @@ impl Page {
         self.out.push(b'\n');
     }
 
+    /// A value as it is written (2026-05), or the mark for a longer one.
     fn listed(&mut self, text: &[u8]) {
         self.out.push(b'=');
-        self.out
-            .extend(if text.len() > LONGEST { b"!" } else { text });
+        if text.len() > LONGEST {
+            return self.out.push(b'!');
+        }
+        for &byte in text {
+            match byte {
+                0..=0x21 | b'%' | 0x7F.. => self.out.extend(format!("%{byte:02X}").into_bytes()),
+                _ => self.out.push(byte),
+            }
+        }
     }
 
     fn recorded(&mut self, text: Option<&[u8]>) {

@@ -1,5 +1,5 @@
 use native.Mathlib.Omega.{arith}
-use Rattle.lines.proofs.Ending.{ends-long, ends-short, is-long, is-short}
+use Rattle.lines.proofs.Ending.{ends-long, ends-short, is-long}
 use borrow.Author.Needs.{needs}
 use Rattle.lines.proofs.end_name.Statement.{statement}
 use Rattle.lines.proofs.end_name.Tie as tie
@@ -7,38 +7,45 @@ use Rattle.lines.proofs.end_name.Reads as reads
 use Rattle.lines.proofs.end_name.Lts as lts
 use Rattle.buffers.proofs.push.Reads as push-reads
 use Rattle.buffers.proofs.put.Reads as put-reads
+use Rattle.escapes.proofs.escape.Reads as escape-reads
 
--- src/lib.rt:126:18
+-- src/lib.rt:129:18
 sub-if1 : tie.Need-sub-if1
 sub-if1 c = search needs
 
--- src/lib.rt:127:33
+-- src/lib.rt:130:33
 slice-aggregate-push : tie.Need-slice-aggregate-push
 slice-aggregate-push c = search needs
 
--- src/lib.rt:127:9
+-- src/lib.rt:130:9
 push-requires : tie.Need-push-requires
 push-requires c κs = search needs
 
--- src/lib.rt:127:9
+-- src/lib.rt:130:9
 same-length : tie.Need-same-length
 same-length c = search needs
 
--- src/lib.rt:127:9
+-- src/lib.rt:130:9
 returns : tie.Need-returns
 returns c = λ o o₁ at key t k w. ends-long k w (is-long k w (c .before .before .before .before .before .before .before .pre .0) (c .before .before .before .before .before .if1 .taken)) (c .before .before .push .ensures)
 
--- src/lib.rt:129:5
+-- src/lib.rt:132:9
+escape-requires : tie.Need-escape-requires
+escape-requires c κs = search needs
+
+-- src/lib.rt:133:5
 put-requires : tie.Need-put-requires
 put-requires c κs = search needs
 
--- src/lib.rt:120:1
+-- src/lib.rt:123:1
 same-length-2 : tie.Need-same-length-2
 same-length-2 c = search needs
 
--- src/lib.rt:120:1
+-- src/lib.rt:123:1
 returns-2 : tie.Need-returns-2
-returns-2 c = λ o o₁ at key t k w. ends-short k w (is-short k w (c .before .before .before .before .before .before .pre .0) (omega (arith, c .before .before .before .before .if1 .left))) (c .before .before .put .ensures)
+returns-2 c =
+    λ o o₁ at key t k w.
+    ends-short k w (c .before .before .before .before .before .before .before .before .before .before .pre .0) (omega (arith, c .before .before .before .before .before .before .before .before .if1 .left)) (c .before .before .before .before .before .before .escape .ensures) (c .before .before .put .ensures)
 
 pub end-name-spec : {M : Type 1} → statement M
 end-name-spec =
@@ -49,6 +56,7 @@ end-name-spec =
     push-requires
     same-length
     returns
+    escape-requires
     put-requires
     same-length-2
     returns-2)

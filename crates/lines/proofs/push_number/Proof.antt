@@ -1,4 +1,5 @@
 use Rattle.buffers.proofs.Writing.{wrote-then}
+use Rattle.escapes.proofs.Apart.{numbers-stand}
 use Rattle.lines.specs.Lines.{line}
 use borrow.Author.Needs.{needs}
 use Rattle.lines.proofs.push_number.Statement.{statement}
@@ -28,7 +29,7 @@ same-length c = search needs
 -- src/lib.rt:97:1
 returns : tie.Need-returns
 unfolding line
-returns c = wrote-then (c .before .before .before .before .before .before .before .before .before .before .push .ensures) (wrote-then (c .before .before .before .before .before .before .push-decimal .ensures) (c .before .before .put .ensures))
+returns c = rw (numbers-stand _) (wrote-then (c .before .before .before .before .before .before .before .before .before .before .push .ensures) (wrote-then (c .before .before .before .before .before .before .push-decimal .ensures) (c .before .before .put .ensures)))
 
 pub push-number-spec : {M : Type 1} → statement M
 push-number-spec =

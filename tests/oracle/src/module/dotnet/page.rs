@@ -5,6 +5,13 @@ use super::Value;
 /// A longer value is not printed.
 const LONGEST: usize = 4096;
 
+const DIGITS: &[u8; 16] = b"0123456789ABCDEF";
+
+/// Whether a byte is written as a percent sign and two digits.
+fn special(byte: u8) -> bool {
+    !(0x22..=0x7E).contains(&byte) || byte == b'%'
+}
+
 pub struct Page<'a> {
     out: &'a mut [u8],
     length: usize,
@@ -22,19 +29,24 @@ impl<'a> Page<'a> {
 
     pub fn text(&mut self, key: &str, text: &[u8]) {
         self.put(key.as_bytes());
-        self.put(if text.len() > LONGEST { b"!" } else { text });
+        if text.len() > LONGEST {
+            self.put(b"!");
+        } else {
+            self.value(text);
+        }
         self.put(b"\n");
     }
 
     /// The text `before.after`.
     pub fn dotted(&mut self, key: &str, before: &[u8], after: &[u8]) {
-        if before.len() + 1 + after.len() > LONGEST {
-            return self.text(key, b"!");
-        }
         self.put(key.as_bytes());
-        self.put(before);
-        self.put(b".");
-        self.put(after);
+        if before.len() + 1 + after.len() > LONGEST {
+            self.put(b"!");
+        } else {
+            self.value(before);
+            self.put(b".");
+            self.value(after);
+        }
         self.put(b"\n");
     }
 
@@ -49,7 +61,23 @@ impl<'a> Page<'a> {
                 break;
             }
         }
-        self.text(key, &digits[at..]);
+        self.put(key.as_bytes());
+        self.put(&digits[at..]);
+        self.put(b"\n");
+    }
+
+    /// A value as it is written (2026-05): at once where every byte stands.
+    fn value(&mut self, text: &[u8]) {
+        if !text.iter().any(|&byte| special(byte)) {
+            return self.put(text);
+        }
+        for &byte in text {
+            if special(byte) {
+                self.put(&[b'%', DIGITS[usize::from(byte / 16)], DIGITS[usize::from(byte % 16)]]);
+            } else {
+                self.put(&[byte]);
+            }
+        }
     }
 
     fn put(&mut self, bytes: &[u8]) {
