@@ -130,3 +130,14 @@ pub fn hold(work: &mut [u32], tables: &[u8], layout: &[u32])
         types + CLASS_KEYS,
     );
 }
+
+// The same with the memory of NestedClass alone, for whoever asks for names and nothing else.
+pub fn hold_nests(work: &mut [u32], tables: &[u8], layout: &[u32])
+    requires { ⌜ Laid (now tables) (now layout) ⌝ }
+    requires { ⌜ columns.size ≤ length (now work) ⌝ }
+    ensures { λ _. ⌜ Held (now (tables .entry)) (now (layout .entry)) (now (work .exit)) ⌝ }
+{
+    copy_layout(work, layout);
+    let types = rows::count_rows(layout, columns::TYPE_NAME);
+    let _end = hold_nested(work, tables, layout, columns::SIZE, types + NESTED_KEYS);
+}
