@@ -1,6 +1,6 @@
-/* Our listing by calls and by pieces and the Rust's two, in one process, and single calls of ours. Run under callgrind by bench/run, which
-   counts what each function named measure_.. costs; the lines that this prints say in order which they were, and lines= how many the
-   listing has.
+/* Our listing by calls and by pieces and the Rust's two, in one process, and single calls of ours, that for the type-name section among
+   them. Run under callgrind by bench/run, which counts what each function named measure_.. costs; the lines that this prints say in order
+   which they were, and lines= how many the listing has.
 
      bench INPUT LISTING
      bench TIMES INPUT LISTING   makes only the Rust's listing of the part that we take, so many times, for bench/growth.py
@@ -74,6 +74,13 @@ int measure_pieces(int input, int output) {
 dn_reply measure_call(int call, const uint32_t *r, struct buffer buffer) MEASURED;
 dn_reply measure_call(int call, const uint32_t *r, struct buffer buffer) { return calls[call].ask(&in, r, buffer); }
 
+dn_section measure_section(void) MEASURED;
+dn_section measure_section(void) {
+    static uint8_t section[PIECE];
+    static uint32_t offsets[WORDS];
+    return section_of(&in, (struct buffer){ section, sizeof section }, (struct words){ offsets, WORDS });
+}
+
 /* ---- the order of it */
 
 static void compare(size_t length, const struct listing *ours) {
@@ -127,6 +134,11 @@ static void single_calls(void) {
         }
 }
 
+static void section_call(void) {
+    printf("section\n");
+    if (measure_section().refusal) fail("the section is too long");
+}
+
 static void print_lines(size_t length) {
     size_t lines = 0;
     for (size_t i = 0; i < length; i++) lines += our_text[i] == '\n';
@@ -148,6 +160,7 @@ int main(int argc, char **argv) {
     if (times) return write_all(output, other_text, fair_listings(times)) ? 0 : 2;
     size_t length = all_listings(input, output);
     single_calls();
+    section_call();
     print_lines(length);
     return 0;
 }

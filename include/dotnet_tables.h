@@ -8,9 +8,9 @@
  *
  * Three streams are lent to a call: the tables stream (II.24.2.6), the strings heap (II.24.2.3) and the blob heap (II.24.2.4), each as a
  * pointer and a length. An absent heap is one of length 0. A pointer may be null where its length is 0, also that of the tables stream,
- * of a buffer or of words. The streams may be any bytes and may overlap one another; a buffer overlaps nothing else, nor do words. Nothing
- * may write to a stream while a call runs. A call keeps nothing: it writes to the buffer and the words that it is lent and to nothing else,
- * allocates nothing, and may run in many threads at once.
+ * of a buffer, of words or of offsets. The streams may be any bytes and may overlap one another; a buffer overlaps nothing else, nor do
+ * words or offsets. Nothing may write to a stream while a call runs. A call keeps nothing: it writes to the buffer and to the words or the
+ * offsets that it is lent and to nothing else, allocates nothing, and may run in many threads at once.
  *
  * Then come the options, a set of bits that says how the streams are opened: 0 is the base. No other bit has a meaning yet, and bits
  * without one are ignored. A dn_streams holds all seven, and DN_STREAMS spreads it:
@@ -29,7 +29,8 @@
  *     3  some table has more than 15,000 rows
  *     4  the class, method, generic parameter, base type or parameter asked for is not in the record; or there is no such question
  *     5  the name asked for is missing; for the name of a class, a method or a generic parameter the reason says why
- *     6  the name is longer than its buffer; how long it is is not told, so a caller doubles the buffer and asks again
+ *     6  the name is longer than its buffer; how long it is is not told, so a caller doubles the buffer and asks again. For a type-name
+ *        section: it or its offsets have no room
  *     7  a heap lookup finds nothing; for a string the reason says why
  *
  * A call for a name answers its length. Its bytes then stand at the front of the buffer, and every other byte of the buffer is 0; so is
@@ -142,6 +143,13 @@ typedef struct dn_piece {
     size_t done;
     dn_cursor next;
 } dn_piece;
+
+/* A type-name section: its bytes, and how many classes there are. */
+typedef struct dn_section {
+    size_t bytes;
+    size_t classes;
+    size_t refusal;
+} dn_section;
 
 /* The kind of table (II.22) at which the walk over the tables is left: the first with rows that is unknown or that does not fit in the
  * stream; 64 if there is none. Refusals: 1, 2, 3. */
@@ -276,6 +284,22 @@ dn_reply dn_ask_name(const uint8_t *tables, size_t tables_len, const uint8_t *st
 dn_piece dn_listing(const uint8_t *tables, size_t tables_len, const uint8_t *strings, size_t strings_len,
                     const uint8_t *blob, size_t blob_len, uint32_t options,
                     dn_cursor from, uint32_t *work, size_t work_len, uint8_t *buf, size_t buf_len);
+
+/* The type-name section: the full names of all classes in one buffer, class 0 first. Each has a slot: the name, one zero, and the fewest
+ * zeros more that reach a multiple of four, so that a name of 4, 8 or 12 bytes has four zeros behind it. Slots follow one another, the
+ * first at 0. A missing name has a slot of four zeros, as an empty one has: dn_class_name tells them apart. offsets[c] is where the slot of
+ * class c begins, a multiple of four; read from there up to the first zero, the section gives the name, as no name has a zero byte.
+ *
+ * The reply is the bytes of all slots and the number of classes. Every byte behind the slots is 0, and every offset behind the classes;
+ * after a refusal every byte and every offset is 0. What the buffers held before makes no difference: equal streams and options, and
+ * buffers of equal lengths, give equal replies, sections and offsets.
+ *
+ * Refusals: 1, 2, 3; 6 where the slots are longer than the section's buffer, where there are more classes than offsets, or where a slot
+ * begins above 4,294,967,295. How long they are is not told then: dn_class_count tells the classes, and a caller doubles the section's
+ * buffer and asks again. The offsets are aligned to four bytes, and neither buffer overlaps anything else. */
+dn_section dn_name_section(const uint8_t *tables, size_t tables_len, const uint8_t *strings, size_t strings_len,
+                           const uint8_t *blob, size_t blob_len, uint32_t options,
+                           uint8_t *section, size_t section_len, uint32_t *offsets, size_t offsets_len);
 
 #ifdef __cplusplus
 }

@@ -1,5 +1,5 @@
-"""Says in words why the listing program refuses an input. The program says the number alone; what it means for this input is read from the
-input once more (ECMA-335 II.24.2.6)."""
+"""Says in words why a program refuses an input. The program says the number alone; what it means for this input is read from the input once
+more (ECMA-335 II.24.2.6)."""
 
 import re
 
@@ -9,6 +9,7 @@ HEADER, COUNT = 24, 4  # bytes of the header of the tables stream, and of a row 
 VALID = slice(8, 16)  # in the header: a bit for each kind of table that is there
 KINDS = 64
 MOST_ROWS = 15000
+MOST_SECTION, MOST_OFFSETS = 262144, 16384  # bytes and places that the program section has (crates/section)
 LENGTHS = re.compile(rb"tables=(\d+)\nstrings=\d+\nblob=\d+\n")
 TABLES = """Module TypeRef TypeDef FieldPtr Field MethodPtr MethodDef ParamPtr Param InterfaceImpl MemberRef Constant CustomAttribute
 FieldMarshal DeclSecurity ClassLayout FieldLayout StandAloneSig EventMap EventPtr Event PropertyMap PropertyPtr Property MethodSemantics
@@ -55,13 +56,18 @@ def too_many_rows(data):
     return "%s; %d is the most" % (", ".join(over), MOST_ROWS)
 
 
+def no_room(data):
+    return ("the section has more than %d bytes or %d classes, for which the program has no room; "
+            "the library has room for any (dn_name_section)" % (MOST_SECTION, MOST_OFFSETS))
+
+
 def bad_input(data):
     if len(data) > MOST_BYTES:
         return "the input has %d bytes; %d is the most" % (len(data), MOST_BYTES)
     return "the input is malformed: it must be the lines tables=N, strings=N and blob=N, and then just so many bytes"
 
 
-REASONS = {1: short_header, 2: short_counts, 3: too_many_rows, 8: bad_input}
+REASONS = {1: short_header, 2: short_counts, 3: too_many_rows, 6: no_room, 8: bad_input}
 
 
 def reason(number, data):

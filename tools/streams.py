@@ -1,4 +1,4 @@
-"""Cuts the streams that the listing program reads out of a .NET assembly (ECMA-335 II.24.2, II.25)."""
+"""Cuts the streams that the programs read out of a .NET assembly (ECMA-335 II.24.2, II.25)."""
 
 import struct
 
@@ -103,7 +103,7 @@ def absent_heaps(data):
 
 
 def bundle(tables, strings, blob):
-    """The three streams as the listing program reads them."""
+    """The three streams as the programs read them."""
     lengths = "tables=%d\nstrings=%d\nblob=%d\n" % (len(tables), len(strings), len(blob))
     made = lengths.encode() + tables + strings + blob
     if len(made) > MOST_BYTES:

@@ -6,8 +6,8 @@
    output gets for each a text after its length in the same form: for every call a line with its name and the bytes of stack that it took.
    It is asked for the first class, method, parameter and so on, on a thread with a stack of ROOM bytes, all 0 before: what it took reaches
    down to the lowest byte that is not 0 afterwards. Calls by their questions have two lines, ask_number and ask_name, with what the worst
-   question took, and the first piece of the listing has one, with what it took at worst, without lent words or with many. tests/stack reads
-   the lines. */
+   question took, and the first piece of the listing has one, with what it took at worst, without lent words or with many; the type-name
+   section has the last. tests/stack reads the lines. */
 #define _GNU_SOURCE
 #include <pthread.h>
 #include <stdio.h>
@@ -21,6 +21,7 @@
 #define PIECE (1 << 16) /* and for a piece of the listing */
 #define GUARD (1 << 16) /* bytes below the stack that are not to be touched */
 #define LINE 60         /* bytes of a line of an answer */
+#define OTHERS 4        /* lines of what is no call of the list */
 
 static struct input input;
 static const struct call *call;
@@ -60,6 +61,12 @@ static void *list(void *none) {
     return none;
 }
 
+static void *write_section(void *none) {
+    top = __builtin_frame_address(0);
+    section_of(&input, (struct buffer){ lent, PIECE }, (struct words){ work, WORDS });
+    return none;
+}
+
 static void make_stack(void) {
     char *below = mmap(0, GUARD + room, PROT_NONE, MAP_PRIVATE | MAP_ANONYMOUS | MAP_NORESERVE, -1, 0);
     if (below == MAP_FAILED || mprotect(below + GUARD, room, PROT_READ | PROT_WRITE)) fail("no memory for a stack");
@@ -89,12 +96,13 @@ int main(int argc, char **argv) {
     room = argc == 2 ? strtoull(argv[1], 0, 10) : 0;
     make_stack();
     while ((data = read_input(&input))) {
-        char text[(CALLS + 3) * LINE];
+        char text[(CALLS + OTHERS) * LINE];
         size_t size = 0;
         for (call = calls; call < calls + CALLS; call++) size += put_line(text + size, call->name, ask_call);
         size += put_line(text + size, "ask_number", ask_numbers);
         size += put_line(text + size, "ask_name", ask_names);
         size += put_line(text + size, "listing", list);
+        size += put_line(text + size, "name_section", write_section);
         write_answer(text, size);
         free(data);
     }

@@ -1,5 +1,5 @@
-/* Every call that answers a number or a name, by its own name and by its question, and the listing, each under one form: the only place
-   here that knows how they are named and what they take. */
+/* Every call that answers a number or a name, by its own name and by its question, the listing and the type-name section, each under one
+   form: the only place here that knows how they are named and what they take. */
 #ifndef CALLS_H
 #define CALLS_H
 
@@ -69,6 +69,10 @@ static inline dn_extent extent_of(const struct input *in, int by_table, uint32_t
 
 static inline dn_piece list_piece(const struct input *in, dn_cursor from, struct words work, struct buffer buffer) {
     return dn_listing(STREAMS, from, work.at, work.length, BUFFER);
+}
+
+static inline dn_section section_of(const struct input *in, struct buffer buffer, struct words offsets) {
+    return dn_name_section(STREAMS, BUFFER, offsets.at, offsets.length);
 }
 
 #define CALL(NAME, name, rows, is_name, ...) [NAME] = { #name, DN_ASK_##NAME, rows, { __VA_ARGS__ }, is_name, ask_##name }

@@ -1,14 +1,16 @@
 /* The compiled calls, under inputs and buffers of every kind. What a proof says of them is seen here in the archive that users link.
 
      harness lengths SEEDS         every call for a name, with buffers of every length from 0 to two past the name, filled with 0x00, 0xAA
-                                   and 0xFF: one reply, and the same bytes afterwards, also by its question
+                                   and 0xFF: one reply, and the same bytes afterwards, also by its question; and the type-name section, with
+                                   as many bytes and as many offsets
      harness inputs SEEDS N SEED   N inputs, made from the seeds by mutation or from nothing: every call, with numbers inside and outside,
-                                   by its name and by its question and with any options; questions that there are not; and pieces of the
-                                   listing from anywhere, by lent words of any number and content
+                                   by its name and by its question and with any options; questions that there are not; pieces of the
+                                   listing from anywhere, by lent words of any number and content; and the type-name section, in buffers of
+                                   any lengths and of four fillings, beside the one that the names of the classes make
 
    SEEDS is a file of inputs of the listing program, each after a 4-byte little-endian length. Every stream ends where memory ends, the
-   buffer and the lent words too, and before these two stand bytes that must stay. Exit status: 0 all well, 1 something is wrong, 2 no seeds
-   or no memory. */
+   buffer and the lent words or offsets too, and before these two stand bytes that must stay. Exit status: 0 all well, 1 something is wrong,
+   2 no seeds or no memory. */
 #define _GNU_SOURCE
 #include <setjmp.h>
 #include <signal.h>
@@ -25,6 +27,9 @@
 #define ROOM (1 << 20)       /* bytes of the largest buffer */
 #define CANARY 64            /* bytes before the buffer, and before lent words */
 #define PLACES 13            /* of a listing */
+#define NAME 4096            /* bytes for a name of a section, and */
+#define SECTION (1 << 16)    /* of the longest that is made by the names */
+#define WAYS 4               /* to fill the buffers of a section */
 #define TICK 50000           /* microseconds */
 #define TICKS_A_CALL 6
 
@@ -228,6 +233,71 @@ static void take(const struct seed *seed) {
     }
 }
 
+/* ---- the type-name section */
+
+/* What the names of the classes make. */
+static struct { size_t bytes, classes; uint8_t slots[SECTION]; uint32_t starts[WORDS]; } made;
+
+/* Makes it; 0 where a name has more than NAME bytes or all have more than SECTION. */
+static int make_section(void) {
+    uint32_t rows[3] = { 0, 0, 0 };
+    made.bytes = 0, made.classes = count(CLASS_COUNT, rows);
+    for (; rows[0] < made.classes; rows[0]++) {
+        struct buffer buffer = buffer_of(NAME, 0xAA);
+        dn_reply name = ask(CLASS_NAME, rows, buffer);
+        size_t zeros = 4 - name.value % 4;
+        if (name.refusal == DN_BUFFER_TOO_SMALL || made.bytes + name.value + zeros > SECTION) return 0;
+        made.starts[rows[0]] = (uint32_t)made.bytes;
+        memcpy(made.slots + made.bytes, buffer.at, name.value);
+        memset(made.slots + made.bytes + name.value, 0, zeros);
+        made.bytes += name.value + zeros;
+    }
+    return 1;
+}
+
+/* Zeros, FF, A5, or a running number. */
+static void fill(uint8_t *at, size_t length, int way) {
+    for (size_t i = 0; i < length; i++) at[i] = way < 3 ? (const uint8_t[]){ 0x00, 0xFF, 0xA5 }[way] : (uint8_t)i;
+}
+
+static struct words words_of(size_t n) {
+    uint8_t *at = lent_words.end - n * sizeof(uint32_t);
+    memset(at - CANARY, 0x5C, CANARY);
+    return (struct words){ (uint32_t *)at, n };
+}
+
+/* So many bytes and offsets, filled in some way, must get the section that the names make; or zeros, beside that refusal. */
+static void check_filled(size_t length, size_t places, int way, size_t refusal) {
+    struct buffer buffer = buffer_of(length, 0);
+    struct words offsets = words_of(places);
+    uint8_t *starts = (uint8_t *)offsets.at;
+    fill(buffer.at, length, way), fill(starts, places * sizeof *offsets.at, way);
+    begin((struct current){ "name_section", { (uint32_t)way, 0, 0, 0 }, length, places });
+    dn_section reply = section_of(&input, buffer, offsets);
+    armed = 0;
+    look_before(buffer.at), look_before(starts);
+    size_t bytes = refusal ? 0 : made.bytes, classes = refusal ? 0 : made.classes, used = classes * sizeof *offsets.at;
+    if (reply.refusal != refusal || reply.bytes != bytes || reply.classes != classes) report("another reply");
+    else if (memcmp(buffer.at, made.slots, bytes) || !is_zero(buffer.at + bytes, length - bytes)) report("another section");
+    else if (memcmp(starts, made.starts, used) || !is_zero(starts + used, places * sizeof *offsets.at - used)) report("other offsets");
+}
+
+/* The refusal of so many bytes and offsets, where opening has none. */
+static size_t refusal_of(size_t length, size_t places) {
+    return length < made.bytes || places < made.classes ? DN_BUFFER_TOO_SMALL : DN_OK;
+}
+
+static void check_section_lengths(void) {
+    size_t refusal = ask(CLASS_COUNT, (const uint32_t[3]){ 0, 0, 0 }, no_buffer).refusal;
+    if (!make_section()) return;
+    for (size_t length = 0; length <= made.bytes + 2; length++) {
+        if (made.bytes > 600 && length > 64 && length + 64 < made.bytes) length = made.bytes - 64;
+        check_filled(length, made.classes, (int)(length % WAYS), refusal ? refusal : refusal_of(length, made.classes));
+    }
+    for (size_t places = 0; places <= made.classes + 2 && places <= WORDS; places++)
+        check_filled(made.bytes, places, (int)(places % WAYS), refusal ? refusal : refusal_of(made.bytes, places));
+}
+
 /* ---- lengths */
 
 static void check_lengths(int call, const uint32_t *rows) {
@@ -275,6 +345,7 @@ static void run_lengths(void) {
             uint32_t rows[3] = { 0, 0, 0 };
             if (calls[call].is_name) each_row(call, 0, rows);
         }
+        check_section_lengths();
         if (!are_unchanged()) report("a stream is changed");
     }
 }
@@ -453,10 +524,9 @@ static void make_anything(void) {
 /* Words of some number, none, a few or as many as serve. */
 static struct words some_words(void) {
     size_t n = (const size_t[]){ 0, below(400), WORDS }[below(3)];
-    uint8_t *at = lent_words.end - n * sizeof *anything;
-    memset(at - CANARY, 0x5C, CANARY);
-    memcpy(at, anything + below(WORDS), n * sizeof *anything);
-    return (struct words){ (uint32_t *)at, n };
+    struct words words = words_of(n);
+    memcpy(words.at, anything + below(WORDS), n * sizeof *anything);
+    return words;
 }
 
 static dn_piece list(dn_cursor from, size_t length, int fill) {
@@ -509,6 +579,21 @@ static void check_listing(void) {
     input.options = 0;
 }
 
+/* ---- the section, in buffers of any lengths */
+
+static size_t length_near(size_t n) { return (const size_t[]){ n, n ? n - 1 : 0, n + 1 + below(100), below(n + 1), 0 }[below(5)]; }
+
+static void check_section(size_t refusal) {
+    int is_made = make_section();
+    size_t length = is_made ? length_near(made.bytes) : below(NAME), places = length_near(made.classes);
+    if (!refusal) refusal = is_made ? refusal_of(length, places) : DN_BUFFER_TOO_SMALL;
+    for (int way = 0; way < WAYS; way++) {
+        check_filled(length, places, way, refusal);
+        input.options = some_options();
+    }
+    input.options = 0;
+}
+
 /* ---- all of them */
 
 /* The tables adjoin, and none reaches past the stream's end. Both walks say the same. */
@@ -547,6 +632,7 @@ static void run_inputs(unsigned long times) {
                 check_call(call, opened.refusal, out);
         check_any_question(opened.refusal);
         check_listing();
+        check_section(opened.refusal);
         if (!are_unchanged()) report("a stream is changed");
     }
 }

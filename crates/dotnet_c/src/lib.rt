@@ -1,5 +1,5 @@
-// The library for C: each public call of `dotnet`, any call by the number of its question, and the listing by pieces, as
-// include/dotnet_tables.h declares them. The options are a set of bits, the numbers of classes, methods, generics, base types and
+// The library for C: each public call of `dotnet`, any call by the number of its question, the listing by pieces, and the type-name
+// section, as include/dotnet_tables.h declares them. The options are a set of bits, the numbers of classes, methods, generics, base types and
 // parameters are plain, and every answer is a struct of numbers.
 use buffers::Reason;
 use c_listing::DnCursor;
@@ -8,6 +8,7 @@ use c_questions::options_of;
 use c_replies::DnExtent;
 use c_replies::DnPart;
 use c_replies::DnReply;
+use c_section::DnSection;
 use classes::ClassNumber;
 ghost use mathlib.Core.Path.{_≡_};
 ghost use Rattle.tables.specs.Extents.{walkOf};
@@ -18,6 +19,8 @@ ghost use Rattle.listing_steps.specs.Filling.{pieceOf};
 ghost use Rattle.c_replies.specs.Told.{theVersion, told, ToldName, toldLookup, toldExtent};
 ghost use Rattle.c_questions.specs.Asked.{optionsOf, numberAsked, nameAsked, askedNumber, askedName};
 ghost use Rattle.c_listing.specs.Told.{cursorOf, ToldPiece};
+ghost use Rattle.name_section.specs.Section.{names};
+ghost use Rattle.c_section.specs.Told.{ToldSection};
 
 // The version of this interface.
 #[no_mangle]
@@ -498,4 +501,20 @@ pub extern "C" fn dn_listing(
         (now (work .exit) ≡ replicate (length (now (work .entry))) 0) ⌝ }
 {
     c_listing::listing(tables, strings, blob, options, from, work, buf)
+}
+
+// The type-name section, and in the offsets where the slot of each class begins in it.
+#[no_mangle]
+pub extern "C" fn dn_name_section(
+    tables: &[u8],
+    strings: &[u8],
+    blob: &[u8],
+    options: u32,
+    section: &mut [u8],
+    offsets: &mut [u32],
+) -> DnSection
+    ensures { λ r. let v = view (optionsOf options) (now (tables .entry)) (now (strings .entry)) (now (blob .entry)) in
+        ⌜ ToldSection (names v) (now (section .entry)) (now (offsets .entry)) r (now (section .exit)) (now (offsets .exit)) ⌝ }
+{
+    c_section::name_section(tables, strings, blob, options, section, offsets)
 }
