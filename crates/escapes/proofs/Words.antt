@@ -1,5 +1,5 @@
 -- Bytes from 0x26 to 0x7E stand, and eight of them are seen as one number. Assumes nothing.
-use mathlib.Core.Path.{_≡_, _∙_}
+use mathlib.Core.Path.{_≡_, _∙_, subst}
 use mathlib.Core.Bool.{false}
 use mathlib.Core.List.{List}
 use Prim.Native.Nat.{ℕ, _+_, _%_, _^_, _≤_, _<_}
@@ -32,3 +32,9 @@ module _ (s : List ℕ) (at : ℕ) (bytes : (i : ℕ) → getD s i 0 < 256) {v w
 
       high : (k : ℕ) → k < 8 → g (at + k) + 0x27 < 0x26 + 128
       high = less-most g at 0x26 (λ k _. bytes (at + k)) (omega arith) (is ∙ worth-le s 8 at) fits wraps clear 0x27 (omega arith) e
+
+  -- The sum does not wrap.
+  pub stand-wrapped : {r : ℕ} → r ≡ (w + all 0x27 8) % 2 ^ 64 → bitAnd r (all 128 8) ≡ 0 → Stands s at 8
+  stand-wrapped {r} e z =
+      let sum : r ≡ w + all 0x27 8 = omega (arith, e, low-eight) in
+      stand-eight (subst (λ (x : ℕ). bitAnd x (all 128 8) ≡ 0) sum z)

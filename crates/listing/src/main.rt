@@ -3,6 +3,7 @@
 // error.
 use answers::Known;
 use buffers::Refusal;
+use buffers::push;
 use bundle::Bundle;
 use header::Opened;
 use header::Options;
@@ -18,7 +19,8 @@ ghost use Rattle.rows.specs.Layout.{Laid, viewIn};
 ghost use Rattle.answers.specs.Known.{Knows};
 
 // Words for the layout, and for the rows by key of every input that the program takes, and bytes of a piece of the listing; and both for
-// one whose tables have at most so many bytes.
+// one whose tables have at most so many bytes, which costs fewer zeros. A piece that is shorter than the longest line, 12,298 bytes, could
+// stay empty, and the listing would never end.
 const WORDS: usize = 19_000;
 
 const PIECE: usize = 65_536;
@@ -28,6 +30,17 @@ const FEW_WORDS: usize = 2_500;
 const FEW_PIECE: usize = 32_768;
 
 const FEW_BYTES: usize = 8_192;
+
+const LEAST_WORDS: usize = 800;
+
+const LEAST_PIECE: usize = 12_800;
+
+const LEAST_BYTES: usize = 2_048;
+
+// Bytes for an input, one more than the program takes; and for a small one, which are read first.
+const INPUT: usize = 65_537;
+
+const SMALL_INPUT: usize = 8_192;
 
 // Where the listing goes on after a piece, what is known, and whether the piece was written.
 struct Written {
@@ -131,6 +144,19 @@ fn write_opened(
     requires { ⌜ Laid (now tables) (now layout) ⌝ }
     requires { ⌜ ((s b : List ℕ) → viewIn (now tables) (now layout) s b ≡ view options (now tables) s b) ⌝ }
 {
+    if tables.len() <= LEAST_BYTES {
+        let mut least = [0u32; LEAST_WORDS];
+        let mut brief = [0u8; LEAST_PIECE];
+        return write_held(
+            tables,
+            strings,
+            blob,
+            options,
+            layout,
+            &mut least,
+            &mut brief,
+        );
+    }
     if tables.len() <= FEW_BYTES {
         let mut few = [0u32; FEW_WORDS];
         let mut short = [0u8; FEW_PIECE];
@@ -174,10 +200,29 @@ fn write_listing(input: &[u8]) -> bool {
     }
 }
 
+// The listing of an input that begins with what was read, and goes on.
+fn write_long(begun: &[u8]) -> bool {
+    let mut space = [0u8; INPUT];
+    let at = push(&mut space, 0, begun);
+    if INPUT < at {
+        return write_refused(Refusal::BadInput);
+    }
+    let n = io::read_full(0, &mut space[at..]);
+    write_listing(numbers::cut(&space, 0, at + n))
+}
+
+// The listing of standard input.
+fn write_input() -> bool {
+    let mut small = [0u8; SMALL_INPUT];
+    let n = io::read_full(0, &mut small);
+    if n < SMALL_INPUT {
+        return write_listing(numbers::cut(&small, 0, n));
+    }
+    write_long(&small)
+}
+
 fn main() {
-    let mut space = [0u8; 65537];
-    let n = io::read_full(0, &mut space);
-    if !write_listing(numbers::cut(&space, 0, n)) {
+    if !write_input() {
         io::write_all(2, b"listing: cannot write to standard output\n");
     }
 }
