@@ -150,7 +150,7 @@ pub fn reply_number(
         NumberQuestion::ParamCount(c, m) => {
             let placed = places::place_method(tables, layout, c, m, own);
             let row = placed.row;
-            let reply = method_answers::count_params_of(tables, strings, blob, layout, row);
+            let reply = method_answers::count_params_of(tables, strings, blob, layout, c, row);
             Counted {
                 reply,
                 known: with_own(known, placed.own),
@@ -241,6 +241,7 @@ pub fn tell_name(
                 strings,
                 blob,
                 layout,
+                c,
                 row,
             );
             let told = typed.told;
@@ -260,6 +261,7 @@ pub fn tell_name(
                 strings,
                 blob,
                 layout,
+                c,
                 row,
                 p,
                 read,
@@ -281,6 +283,7 @@ pub fn tell_name(
                 strings,
                 blob,
                 layout,
+                c,
                 row,
                 p,
                 read,

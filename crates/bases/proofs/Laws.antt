@@ -15,14 +15,19 @@ use Rattle.buffers.specs.declared.Place.{Place}
 use Rattle.buffers.specs.declared.Place.the-variants.{Next, Missing}
 use Rattle.buffers.proofs.Writing.{kept-same, said-some, said-none, kept-then, wrote-anew}
 use Rattle.record.specs.Missing.{over, orDefault, present}
+use Rattle.record.specs.Readings.{total}
 use Rattle.record.specs.Columns.{extends}
 use Rattle.record.specs.View.{View, viewOf}
 use Rattle.record.specs.Types.{typeFullName, type}
-use Rattle.record.specs.Names.{numberIn, classRow, sizesOf, levels, typeNameIn, baseTypes}
+use Rattle.record.specs.Names.{numberIn, classRow, sizesOf, levels, typeIn, typeNameIn, typeStepsIn, baseIndices, baseTypes, baseSteps}
 use Rattle.record.proofs.Read.{class-row}
 use Rattle.rows.specs.Columns as columns
 use Rattle.rows.specs.Layout.{Laid, rowsAt, cell, optionsIn, headerIn, viewIn}
 use Rattle.rows.proofs.Classes.{classes-are}
+use Rattle.steps.specs.Counting.{Takes, left, spent}
+use Rattle.steps.specs.declared.Steps.{Steps}
+use Rattle.steps.specs.declared.Steps.the-variants.{Left, Spent}
+use Rattle.steps.proofs.Laws.{takes-left, takes-spent}
 use Rattle.sig_leaves.specs.declared.Owner.the-variants.{Of, Nobody}
 use Rattle.signatures.specs.Environment.{envIn}
 use Rattle.rows.specs.Held.{keyed}
@@ -30,7 +35,7 @@ use Rattle.keys.specs.Keyed.{FoundIs}
 use Rattle.keys.specs.declared.Row.{Row}
 use Rattle.keys.specs.declared.Row.the-variants.{At, NoRow}
 use Rattle.keys.proofs.Laws.{keyed-none, keyed-at-most, interfaces-count, interfaces-found, interfaces-missed, interfaces-passed}
-use Rattle.bases.specs.Candidates.{candidates, basesAmong, KnowsBases, CandidateIs, index, past}
+use Rattle.bases.specs.Candidates.{basesAmong, KnowsBases, CandidateIs, index, past}
 use Rattle.bases.specs.declared.Bases.{Bases}
 use Rattle.bases.specs.declared.Candidate.{Candidate}
 use Rattle.bases.specs.declared.Candidate.the-variants.{Index, NoCandidate}
@@ -82,22 +87,22 @@ module _ (v : View) (c : ℕ) where
   pub among-most : (i : ℕ) → length (basesAmong v c i) ≤ i
   unfolding basesAmong
   among-most i =
-      let a = present-most (map (typeNameIn v c) (take i (candidates v c))) in
-      let b = taken-most (typeNameIn v c) (candidates v c) i in
+      let a = present-most (map (typeNameIn v c) (take i (baseIndices v c))) in
+      let b = taken-most (typeNameIn v c) (baseIndices v c) i in
       omega arith
 
   -- Past the last candidate all base types are among them.
-  pub among-all : (i : ℕ) → length (candidates v c) ≤ i → basesAmong v c i ≡ baseTypes v c
-  unfolding basesAmong candidates baseTypes
-  among-all i h = ap (λ l. present (map (typeNameIn v c) l)) (take-all i (candidates v c) h)
+  pub among-all : (i : ℕ) → length (baseIndices v c) ≤ i → basesAmong v c i ≡ baseTypes v c
+  unfolding basesAmong baseTypes
+  among-all i h = ap (λ l. present (map (typeNameIn v c) l)) (take-all i (baseIndices v c) h)
 
   -- One candidate more, by its name.
-  module _ (i : ℕ) {x : ℕ} (at : getElem? (candidates v c) i ≡ some x) where
+  module _ (i : ℕ) {x : ℕ} (at : getElem? (baseIndices v c) i ≡ some x) where
     among-more : basesAmong v c (i + 1) ≡ basesAmong v c i ++ present (typeNameIn v c x ∷ [])
     unfolding basesAmong
     among-more =
-        rw (add-one i) (ap (λ l. present (map (typeNameIn v c) l)) (item-take (candidates v c) i at)
-        ∙ named-append (typeNameIn v c) (take i (candidates v c)) (x ∷ []))
+        rw (add-one i) (ap (λ l. present (map (typeNameIn v c) l)) (item-take (baseIndices v c) i at)
+        ∙ named-append (typeNameIn v c) (take i (baseIndices v c)) (x ∷ []))
 
     pub among-missing : typeNameIn v c x ≡ none → length (basesAmong v c i) ≡ length (basesAmong v c (i + 1))
     among-missing e =
@@ -109,13 +114,13 @@ module _ (v : View) (c : ℕ) where
           sym (ap length (among-more ∙ ap (λ o. basesAmong v c i ++ present (o ∷ [])) e) ∙ length-append (basesAmong v c i) (t ∷ []))
 
       pub among-item : getElem? (baseTypes v c) (length (basesAmong v c i)) ≡ some t
-      unfolding basesAmong candidates baseTypes
+      unfolding basesAmong baseTypes
       among-item =
-          let rest = drop (suc i) (candidates v c) in
+          let rest = drop (suc i) (baseIndices v c) in
           let f = typeNameIn v c in
           let is : baseTypes v c ≡ basesAmong v c i ++ t ∷ present (map f rest) =
-          ap (λ l. present (map f l)) (item-cut (candidates v c) i at)
-          ∙ named-append f (take i (candidates v c)) (x ∷ rest)
+          ap (λ l. present (map f l)) (item-cut (baseIndices v c) i at)
+          ∙ named-append f (take i (baseIndices v c)) (x ∷ rest)
           ∙ ap (λ o. basesAmong v c i ++ present (o ∷ map f rest)) e in
           rw is (item-seam (basesAmong v c i) t (present (map f rest)))
 
@@ -128,8 +133,13 @@ module _ {t l : List ℕ} (laid : Laid t l) (strings blob : List ℕ) (r : ℕ) 
   -- The name behind an index, in a row of the class, as a signature has it.
   pub type-name : (k i : ℕ) → k ≡ 2 * r
       → typeFullName (envIn t l strings blob (Of k) Nobody) (type (envIn t l strings blob (Of k) Nobody) levels) i .got ≡ typeNameIn v (r - 2) i
-  unfolding envIn typeNameIn
+  unfolding envIn typeIn typeNameIn
   type-name k i e = let q : k ≡ 2 * (r - 2 + 2) = omega arith in rw q
+
+  pub type-steps : (k i : ℕ) → k ≡ 2 * r
+      → typeFullName (envIn t l strings blob (Of k) Nobody) (type (envIn t l strings blob (Of k) Nobody) levels) i .steps ≡ typeStepsIn v (r - 2) i
+  unfolding envIn typeIn typeStepsIn
+  type-steps k i e = let q : k ≡ 2 * (r - 2 + 2) = omega arith in rw q
 
   extended : r ≤ rowsAt l columns.typeName → numberIn v extends (classRow v (r - 2)) ≡ cell t l columns.extends (r - 1)
   unfolding viewOf
@@ -141,12 +151,12 @@ module _ {t l : List ℕ} (laid : Laid t l) (strings blob : List ℕ) (r : ℕ) 
 
   pub candidate-extended : (i : ℕ) {p x : ℕ} → r ≤ rowsAt l columns.typeName → i ≡ 0 → p ≡ r - 1 → x ≡ cell t l columns.extends p
       → CandidateIs t l strings blob r i (Index x 0)
-  unfolding candidates
+  unfolding baseIndices
   candidate-extended i {p} h z e f = rw z (index {after = 0} (ap some (extended h ∙ sym (f ∙ ap (cell t l columns.extends) e))) (omega arith) (keyed-none _ _))
 
   -- The interfaces of the class by its row.
-  interface-item : (j : ℕ) → getElem? (candidates v (r - 2)) (suc j) ≡ getElem? (v .interfaces r) j
-  unfolding candidates
+  interface-item : (j : ℕ) → getElem? (baseIndices v (r - 2)) (suc j) ≡ getElem? (v .interfaces r) j
+  unfolding baseIndices
   interface-item j = let c : r - 2 + 2 ≡ r = omega arith in ap (λ (k : ℕ). getElem? (v .interfaces k) j) c
 
   module _ (i : ℕ) {key nth : ℕ} (found : Row) (z : i ≡ 0 → ⊥) (k : key ≡ r) (q : nth ≡ i - 1)
@@ -159,15 +169,15 @@ module _ {t l : List ℕ} (laid : Laid t l) (strings blob : List ℕ) (r : ℕ) 
         let one : i ≡ suc (i - 1) = omega arith in
         let sum : i ≡ i - 1 + 1 = omega arith in
         let item = interfaces-found laid strings blob r (i - 1) j finds e in
-        index {after = j + 1} (ap (getElem? (candidates v (r - 2))) one ∙ interface-item (i - 1) ∙ item .2 ∙ ap some (sym g)) (omega (arith, item .0)) (sum ∙ interfaces-passed laid strings blob r (i - 1) j finds e)
+        index {after = j + 1} (ap (getElem? (baseIndices v (r - 2))) one ∙ interface-item (i - 1) ∙ item .2 ∙ ap some (sym g)) (omega (arith, item .0)) (sum ∙ interfaces-passed laid strings blob r (i - 1) j finds e)
 
     pub candidate-past : found ≡ NoRow → CandidateIs t l strings blob r i NoCandidate
     candidate-past e =
         let one : i ≡ suc (i - 1) = omega arith in
-        past (ap (getElem? (candidates v (r - 2))) one ∙ interface-item (i - 1) ∙ interfaces-missed laid strings blob r (i - 1) finds e)
+        past (ap (getElem? (baseIndices v (r - 2))) one ∙ interface-item (i - 1) ∙ interfaces-missed laid strings blob r (i - 1) finds e)
 
-  pub candidates-most : length (candidates v (r - 2)) ≤ rowsAt l columns.implClass + 1
-  unfolding candidates
+  pub candidates-most : length (baseIndices v (r - 2)) ≤ rowsAt l columns.implClass + 1
+  unfolding baseIndices
   candidates-most =
       let c : r - 2 + 2 ≡ r = omega arith in
       let n : length (v .interfaces (r - 2 + 2)) ≡ keyed (cell t l columns.implClass) r (rowsAt l columns.implClass) =
@@ -189,12 +199,12 @@ module _ {t l : List ℕ} (laid : Laid t l) (strings blob : List ℕ) (r : ℕ) 
 -- What a candidate that was matched says.
 module _ {t l strings blob : List ℕ} {r i : ℕ} where
   pub candidate-index : {x after : ℕ} → CandidateIs t l strings blob r i (Index x after)
-      → (getElem? (candidates (viewIn t l strings blob) (r - 2)) i ≡ some x)
+      → (getElem? (baseIndices (viewIn t l strings blob) (r - 2)) i ≡ some x)
       × (after ≤ rowsAt l columns.implClass)
       × (i ≡ keyed (cell t l columns.implClass) r after)
   candidate-index (index e a k) = (e, a, k)
 
-  pub candidate-none : CandidateIs t l strings blob r i NoCandidate → getElem? (candidates (viewIn t l strings blob) (r - 2)) i ≡ none
+  pub candidate-none : CandidateIs t l strings blob r i NoCandidate → getElem? (baseIndices (viewIn t l strings blob) (r - 2)) i ≡ none
   candidate-none (past e) = e
 
 -- ---- The search for a base type
@@ -278,7 +288,7 @@ module _ {t l strings blob : List ℕ} {r nth : ℕ} {b₀ : List ℕ} {at : ℕ
           )
 
     -- All candidates have been tried.
-    pub search-over : {key : ℕ} → key ≡ r → length (candidates (viewIn t l strings blob) (r - 2)) ≤ i
+    pub search-over : {key : ℕ} → key ≡ r → length (baseIndices (viewIn t l strings blob) (r - 2)) ≤ i
         → Said b₀ at b (getElem? (baseTypes (viewIn t l strings blob) (r - 2)) nth) none
         × KnowsBases (viewIn t l strings blob) (record { row = key; seen = seen; tried = i })
         × (seen ≡ length (baseTypes (viewIn t l strings blob) (r - 2)))
@@ -293,4 +303,74 @@ module _ {t l strings blob : List ℕ} {r nth : ℕ} {b₀ : List ℕ} {at : ℕ
         → Said b₀ at b (getElem? (baseTypes (viewIn t l strings blob) (r - 2)) nth) none
         × KnowsBases (viewIn t l strings blob) (record { row = key; seen = seen; tried = i })
         × (seen ≡ length (baseTypes (viewIn t l strings blob) (r - 2)))
-    search-past k c = search-over k (item-none (candidates (viewIn t l strings blob) (r - 2)) i (candidate-none c))
+    search-past k c = search-over k (item-none (baseIndices (viewIn t l strings blob) (r - 2)) i (candidate-none c))
+
+-- ---- Passing over all base types
+
+total-append : (l m : List ℕ) → total (l ++ m) ≡ total l + total m
+total-append [] m = omega arith
+total-append (n ∷ l) m = omega (arith, total-append l m)
+
+-- The steps of the first i candidates.
+unfoldable pub stepsAmong : View → ℕ → ℕ → ℕ
+stepsAmong v c i = total (map (typeStepsIn v c) (take i (baseIndices v c)))
+
+module _ (v : View) (c : ℕ) where
+  steps-all : (i : ℕ) → length (baseIndices v c) ≤ i → stepsAmong v c i ≡ baseSteps v c
+  unfolding stepsAmong baseSteps
+  steps-all i h = ap (λ (l : List ℕ). total (map (typeStepsIn v c) l)) (take-all i (baseIndices v c) h)
+
+  module _ (i : ℕ) {x : ℕ} (at : getElem? (baseIndices v c) i ≡ some x) where
+    steps-more : stepsAmong v c (i + 1) ≡ stepsAmong v c i + typeStepsIn v c x
+    unfolding stepsAmong
+    steps-more =
+        let f = typeStepsIn v c in
+        rw (add-one i) (ap (λ (l : List ℕ). total (map f l)) (item-take (baseIndices v c) i at)
+        ∙ ap total (map-append f (take i (baseIndices v c)) (x ∷ [])) ∙ total-append (map f (take i (baseIndices v c))) (f x ∷ [])
+        ∙ (let one : total (map f (take i (baseIndices v c))) + (f x + 0) ≡ total (map f (take i (baseIndices v c))) + f x = omega arith in one))
+
+    steps-least : stepsAmong v c i + typeStepsIn v c x ≤ baseSteps v c
+    unfolding stepsAmong baseSteps
+    steps-least =
+        let f = typeStepsIn v c in
+        let cut = item-cut (baseIndices v c) i at in
+        let all : total (map f (baseIndices v c)) ≡ total (map f (take i (baseIndices v c))) + (f x + total (map f (drop (suc i) (baseIndices v c)))) =
+        ap (λ (l : List ℕ). total (map f l)) cut ∙ ap total (map-append f (take i (baseIndices v c)) (x ∷ drop (suc i) (baseIndices v c)))
+        ∙ total-append (map f (take i (baseIndices v c))) (map f (x ∷ drop (suc i) (baseIndices v c))) in
+        omega (arith, all)
+
+-- Of the class at TypeDef row r, i candidates have been passed, and so many of the steps are left; the next candidate is looked for from a
+-- place of InterfaceImpl on.
+pub record Passing (t l strings blob : List ℕ) (r steps i from passed have : ℕ) : Type 0 where
+  pub paid : stepsAmong (viewIn t l strings blob) (r - 2) i + have ≡ steps
+  pub within : from ≤ rowsAt l columns.implClass
+  pub own : passed ≡ keyed (cell t l columns.implClass) r from
+  pub less : passed ≤ i - 1
+
+module _ {t l strings blob : List ℕ} {r steps : ℕ} where
+  pub pass-start : Passing t l strings blob r steps 0 0 0 steps
+  unfolding stepsAmong
+  pass-start = record { paid = omega arith; within = omega arith; own = keyed-none _ _; less = omega arith }
+
+  module _ {i from passed have : ℕ} (s : Passing t l strings blob r steps i from passed have) where
+    module _ {x after : ℕ} (c : CandidateIs t l strings blob r i (Index x after)) {rest : Steps} (takes : Takes (typeStepsIn (viewIn t l strings blob) (r - 2) x) have rest) where
+      pub pass-more : {k : ℕ} → rest ≡ Left k → Passing t l strings blob r steps (i + 1) after i k
+      pass-more e =
+          let is = candidate-index c in
+          record {
+            paid = omega (arith, s .paid, takes-left takes e, steps-more (viewIn t l strings blob) (r - 2) i (is .0));
+            within = is .1;
+            own = is .2;
+            less = omega arith;
+          }
+
+      pub pass-spent : rest ≡ Spent → Takes (baseSteps (viewIn t l strings blob) (r - 2)) steps Spent
+      pass-spent e =
+          let is = candidate-index c in
+          spent (omega (arith, s .paid, takes-spent takes e, steps-least (viewIn t l strings blob) (r - 2) i (is .0)))
+
+    pub pass-all : length (baseIndices (viewIn t l strings blob) (r - 2)) ≤ i → Takes (baseSteps (viewIn t l strings blob) (r - 2)) steps (Left have)
+    pass-all h = left {rest = have} (omega (arith, s .paid, steps-all (viewIn t l strings blob) (r - 2) i h))
+
+    pub pass-past : CandidateIs t l strings blob r i NoCandidate → Takes (baseSteps (viewIn t l strings blob) (r - 2)) steps (Left have)
+    pass-past c = pass-all (item-none (baseIndices (viewIn t l strings blob) (r - 2)) i (candidate-none c))

@@ -1,15 +1,14 @@
 -- The candidates for the base types of a class (ECMA-335 II.22.37, II.22.23; `finalize`): TypeDefOrRef indices, of which those with a name
 -- are its base types.
 use mathlib.Core.Path.{_≡_}
-use mathlib.Core.List.{List, _∷_, map}
+use mathlib.Core.List.{List, map}
 use mathlib.Core.Option.{none, some}
 use Prim.Native.Nat.{ℕ, _-_, _<_, _≤_}
 use lib.ListN.{length, getElem?, take}
 use Rattle.buffers.specs.Texts.{Text}
 use Rattle.record.specs.Missing.{present}
-use Rattle.record.specs.Columns.{extends}
 use Rattle.record.specs.View.{View}
-use Rattle.record.specs.Names.{numberIn, classRow, classIndex, typeNameIn}
+use Rattle.record.specs.Names.{baseIndices, typeNameIn}
 use Rattle.rows.specs.Columns as columns
 use Rattle.rows.specs.Layout.{cell, rowsAt, viewIn}
 use Rattle.rows.specs.Held.{keyed}
@@ -17,13 +16,9 @@ use Rattle.bases.specs.declared.Candidate.{Candidate}
 use Rattle.bases.specs.declared.Candidate.the-variants.{Index, NoCandidate}
 use Rattle.bases.specs.declared.Bases.{Bases}
 
--- The Extends column of class c, and then the Interface columns of its rows of InterfaceImpl.
-unfoldable pub candidates : View → ℕ → List ℕ
-candidates v c = numberIn v extends (classRow v c) ∷ v .interfaces (classIndex c)
-
 -- The base types among the first n of them.
 unfoldable pub basesAmong : View → ℕ → ℕ → List Text
-basesAmong v c n = present (map (typeNameIn v c) (take n (candidates v c)))
+basesAmong v c n = present (map (typeNameIn v c) (take n (baseIndices v c)))
 
 -- What is known of a class's base types is true of the view; of row 0 it says nothing.
 pub record KnowsBases (v : View) (k : Bases) : Type 0 where
@@ -32,7 +27,7 @@ pub record KnowsBases (v : View) (k : Bases) : Type 0 where
 -- r is candidate i of the class at TypeDef row `row`, and a place of InterfaceImpl before which i rows are the class's own; or there is
 -- no such candidate.
 pub data CandidateIs (t l strings blob : List ℕ) (row i : ℕ) : Candidate → Type 0 where
-  index : {x after : ℕ} → getElem? (candidates (viewIn t l strings blob) (row - 2)) i ≡ some x
+  index : {x after : ℕ} → getElem? (baseIndices (viewIn t l strings blob) (row - 2)) i ≡ some x
       → after ≤ rowsAt l columns.implClass → i ≡ keyed (cell t l columns.implClass) row after
       → CandidateIs t l strings blob row i (Index x after)
-  past : getElem? (candidates (viewIn t l strings blob) (row - 2)) i ≡ none → CandidateIs t l strings blob row i NoCandidate
+  past : getElem? (baseIndices (viewIn t l strings blob) (row - 2)) i ≡ none → CandidateIs t l strings blob row i NoCandidate

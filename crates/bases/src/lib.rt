@@ -8,6 +8,7 @@ use numbers::wide;
 use rows::columns;
 use sig_leaves::LEVELS;
 use sig_leaves::Owner;
+use steps::Steps;
 ghost use mathlib.Core.Path.{_≡_};
 ghost use mathlib.Core.List.{List};
 ghost use Prim.Native.Nat.{ℕ, _-_, _<_, _≤_};
@@ -16,10 +17,11 @@ ghost use Rattle.buffers.specs.Writes.{Said, placeSays};
 ghost use Rattle.buffers.specs.declared.Place.the-variants.{Missing};
 ghost use Rattle.classes.specs.Numbering.{classOf};
 ghost use Rattle.record.specs.View.{View};
-ghost use Rattle.record.specs.Names.{typeNameIn, baseTypes};
+ghost use Rattle.record.specs.Names.{typeNameIn, typeStepsIn, baseTypes, baseSteps};
 ghost use Rattle.rows.specs.Columns as columns;
 ghost use Rattle.rows.specs.Layout.{Laid, rowsAt, cell, viewIn};
 ghost use Rattle.rows.specs.Held.{keyed};
+ghost use Rattle.steps.specs.Counting.{Takes};
 ghost use Rattle.bases.specs.Candidates.{KnowsBases, CandidateIs};
 
 // More base types than any class has.
@@ -241,4 +243,76 @@ pub fn count_bases(
     );
     let bases = based.bases;
     bases.seen
+}
+
+// What passing over the type behind a TypeDefOrRef index that stands in a row of a class takes of the steps.
+fn pass_base(
+    tables: &[u8],
+    strings: &[u8],
+    blob: &[u8],
+    layout: &[u32],
+    row: TypeDefRow,
+    index: u32,
+    steps: u64,
+) -> Steps
+    requires { ⌜ Laid (now tables) (now layout) ⌝ }
+    requires { ⌜ 1 < row .0 ⌝ }
+    ensures { λ r. let v = viewIn (now (tables .entry)) (now (layout .entry)) (now (strings .entry)) (now (blob .entry)) in
+        ⌜ Takes (typeStepsIn v (classOf row) index) steps r ⌝ }
+{
+    let class = Owner::Of(2 * wide(row.0));
+    let passed = passing::pass_name(
+        tables,
+        strings,
+        blob,
+        layout,
+        class,
+        Owner::Nobody,
+        index,
+        LEVELS,
+        steps,
+    );
+    passing::steps_left(passed)
+}
+
+// What passing over all base types of the class at a TypeDef row takes of the steps, those without a name included.
+pub fn pass_bases(
+    tables: &[u8],
+    strings: &[u8],
+    blob: &[u8],
+    layout: &[u32],
+    row: TypeDefRow,
+    steps: u64,
+) -> Steps
+    requires { ⌜ Laid (now tables) (now layout) ⌝ }
+    requires { ⌜ (1 < row .0) × (row .0 ≤ rowsAt (now layout) columns.typeName) ⌝ }
+    ensures { λ r. let v = viewIn (now (tables .entry)) (now (layout .entry)) (now (strings .entry)) (now (blob .entry)) in
+        ⌜ Takes (baseSteps v (classOf row)) steps r ⌝ }
+{
+    let n = rows::count_rows(layout, columns::IMPL_CLASS);
+    let mut i = 0;
+    let mut from = 0;
+    let mut passed = 0;
+    let mut have = steps;
+    while i <= n {
+        match candidate_at(tables, layout, row, i, from, passed) {
+            Candidate::Index(index, after) => {
+                from = after;
+                passed = i;
+                i += 1;
+                match pass_base(tables, strings, blob, layout, row, index, have) {
+                    Steps::Left(left) => {
+                        have = left;
+                    }
+                    Steps::Spent => {
+                        return Steps::Spent;
+                    }
+                }
+            }
+            Candidate::NoCandidate => {
+                return Steps::Left(have);
+            }
+        }
+    }
+    Steps::Left(have)
 }

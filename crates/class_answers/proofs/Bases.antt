@@ -1,5 +1,5 @@
 -- What the calls answer of a class that is listed, by its base types, and of one that is not. Assumes nothing.
-use mathlib.Core.Path.{_≡_, sym, ap, _∙_}
+use mathlib.Core.Path.{_≡_, sym, ap, subst, _∙_}
 use mathlib.Core.List.{List}
 use mathlib.Core.Option.{Option, none, some}
 use Prim.Native.Nat.{ℕ, _+_, _-_, _≤_, _<_}
@@ -17,9 +17,13 @@ use Rattle.buffers.proofs.Writing.{kept-same, said-some, said-none}
 use Rattle.buffers.proofs.Telling.{told-same}
 use Rattle.classes.specs.declared.TypeDefRow.{TypeDefRow}
 use Rattle.record.specs.View.{View}
-use Rattle.record.specs.Names.{baseTypes}
+use Rattle.record.specs.Names.{baseTypes, baseSteps}
+use Rattle.record.specs.Allowance.{countOf, baseWork}
 use Rattle.record.specs.Record.{class}
 use Rattle.record.specs.Answers.{_⟫_, orNoRow, item, theClass, Numbered, baseCount, baseName}
+use Rattle.steps.specs.Counting.{Takes, left}
+use Rattle.steps.specs.declared.Steps.{Steps}
+use Rattle.steps.specs.declared.Steps.the-variants.{Left}
 use Rattle.rows.specs.Columns as columns
 use Rattle.rows.specs.Layout.{Laid, rowsAt, viewIn}
 use Rattle.places.proofs.Laws.{listed, unlisted}
@@ -50,6 +54,12 @@ module _ {t l : List ℕ} (laid : Laid t l) (strings blob : List ℕ) (c : ℕ) 
         ap value (e ∙ ap (λ (k : ℕ). length (baseTypes v k)) number-of)
         ∙ sym (ap (λ a. a ⟫ (λ k. value (length (k .bases)))) is)
 
+    pub class-takes : {steps : ℕ} {r : Steps} → Takes (baseSteps v (row .0 - 2)) steps r → Takes (countOf (baseWork v c)) steps r
+    unfolding baseWork
+    class-takes {steps} {r} takes =
+        let work : baseWork v c ≡ value (baseSteps v c) = ap (λ a. a ⟫ (λ _. value (baseSteps v c))) is in
+        subst (λ (n : ℕ). Takes n steps r) (ap (baseSteps v) number-of ∙ sym (ap countOf work)) takes
+
     module _ (n : ℕ) where
       base-is : baseName v c n ≡ orNoRow (getElem? (baseTypes v (row .0 - 2)) n)
       unfolding baseName class
@@ -71,3 +81,9 @@ module _ {t l : List ℕ} (laid : Laid t l) (strings blob : List ℕ) (c : ℕ) 
     pub no-class-base : (n : ℕ) (b : List ℕ) (place : ℕ) → ToldIs (baseName v c n) b place b NoRow
     unfolding baseName
     no-class-base n b place = no-row (ap (λ a. a ⟫ (λ k. item (k .bases) n)) isn't) (kept-same b place)
+
+    pub no-class-takes : (steps : ℕ) → Takes (countOf (baseWork v c)) steps (Left steps)
+    unfolding baseWork
+    no-class-takes steps =
+        let work : countOf (baseWork v c) ≡ 0 = ap countOf (ap (λ a. a ⟫ (λ _. value (baseSteps v c))) isn't) in
+        left {rest = steps} (omega (arith, work))

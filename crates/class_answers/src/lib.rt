@@ -7,6 +7,7 @@ use buffers::Told;
 use classes::ClassNumber;
 use places::ClassRow;
 use rows::columns;
+use steps::Steps;
 ghost use mathlib.Core.List.{List};
 ghost use mathlib.Core.Option.{Option};
 ghost use Prim.Native.Nat.{ℕ};
@@ -15,7 +16,9 @@ ghost use Rattle.buffers.specs.Writes.{Said, placeSays};
 ghost use Rattle.buffers.specs.Telling.{ToldIs};
 ghost use Rattle.bases.specs.Candidates.{KnowsBases};
 ghost use Rattle.record.specs.Answers.{Numbered, orNoRow, classFlags, className, genericCount, genericName, baseCount, baseName};
+ghost use Rattle.record.specs.Allowance.{countOf, baseWork};
 ghost use Rattle.rows.specs.Layout.{Laid, viewIn};
+ghost use Rattle.steps.specs.Counting.{Takes};
 
 // What the answer for a base type came to, and what is known of base types after it.
 pub struct ToldBase {
@@ -170,5 +173,24 @@ pub fn tell_base_name(
             told: Told::NoRow,
             bases: known,
         },
+    }
+}
+
+// What all base types of a class take of the steps: nothing where there is no such class.
+pub fn pass_bases_of(
+    tables: &[u8],
+    strings: &[u8],
+    blob: &[u8],
+    layout: &[u32],
+    class: ClassNumber,
+    steps: u64,
+) -> Steps
+    requires { ⌜ Laid (now tables) (now layout) ⌝ }
+    ensures { λ r. let v = viewIn (now (tables .entry)) (now (layout .entry)) (now (strings .entry)) (now (blob .entry)) in
+        ⌜ Takes (countOf (baseWork v (class .0))) steps r ⌝ }
+{
+    match places::class_row(layout, class) {
+        ClassRow::Row(row) => bases::pass_bases(tables, strings, blob, layout, row, steps),
+        ClassRow::NoRow => Steps::Left(steps),
     }
 }

@@ -3,11 +3,12 @@ use mathlib.Core.Path.{_≡_, refl, sym, ap, ap₂, _∙_, subst, subst⁻¹}
 use mathlib.Core.List.{List, [], _∷_}
 use mathlib.Core.Bool.{Bool, true, false, cond, not}
 use mathlib.Core.Option.{Option, none, some}
-use Prim.Native.Nat.{ℕ, zero, suc, _+_, _*_, _%_, _^_, _≤_, _<_, zero-le}
+use Prim.Native.Nat.{ℕ, zero, suc, _+_, _*_, _-_, _%_, _^_, _≤_, _<_, zero-le}
 use native.Mathlib.Nat.{add-zero}
 use native.Mathlib.Numerals.{add-one}
 use native.Mathlib.Omega.{arith}
 use borrow.Author.Tests.{eq-eqb, ne-eqb, lt-ltb, le-ltb, le-leb, lt-leb}
+use lib.Dec.{ltb}
 use lib.Bits.{bitAnd, bitXor}
 use lib.ListN.{length, getD, drop, length-drop, drop-of-length-le}
 use lib.Seq.{drop-cons}
@@ -16,11 +17,11 @@ use Rattle.numbers.specs.Compressed.{uint}
 use Rattle.numbers.specs.Parts.{part}
 use Rattle.numbers.specs.Fixed.{leAt}
 use Rattle.numbers.proofs.Words.{all, worth-le, none-is}
-use Rattle.numbers.proofs.Pick.{pick-lt, pick-le, pick-eq}
+use Rattle.numbers.proofs.Pick.{pick-lt, pick-le, pick-eq, by-lt}
 use Rattle.buffers.specs.Replies.{reasonCode}
 use Rattle.buffers.specs.declared.Reason.{Reason}
 use Rattle.buffers.specs.declared.Reason.the-variants.{Untold, NullIndex, PastEnd, NoZero}
-use Rattle.heaps.specs.Lookups.{before, Without, stringAt, bytesAt, blobAt, found, missing, name, string, partReason, Inside}
+use Rattle.heaps.specs.Lookups.{before, Without, stringAt, bytesAt, blobAt, found, missing, name, string, isThere, partReason, Inside}
 use Rattle.heaps.specs.declared.Part.{Part}
 use Rattle.heaps.specs.declared.Part.the-variants.{Found, Absent}
 
@@ -149,6 +150,37 @@ string-some s i e = rw (name-found s i e)
 pub string-none : (s : List ℕ) (i : ℕ) {why : Reason} → Absent why ≡ stringAt s i → string s i ≡ none
 unfolding string
 string-none s i e = rw (name-missing s i e)
+
+-- Whether a string is there, by the ways through its lookup. A byte that is sought stands nowhere before the first that is found.
+pub found-by : (x : ℕ) (s : List ℕ) (n i : ℕ) → i + n < length s → getD s (i + n) 0 ≡ x → i + before x (drop i s) ≤ i + n
+found-by x s zero i h e =
+    let here = find-hit x s i refl (omega (arith, h)) (subst (λ (j : ℕ). getD s j 0 ≡ x) (add-zero i) e) in omega (arith, here)
+found-by x s (suc n) i h e =
+    let next : i + suc n ≡ i + 1 + n = omega arith in
+    let on = found-by x s n (i + 1) (omega (arith, h)) (subst (λ (j : ℕ). getD s j 0 ≡ x) next e) in
+    pick-eq (λ (m : ℕ). i + before x (drop i s) ≤ i + suc n) (getD s i 0) x {x = 0} {y = 1}
+    (λ k. omega (arith, find-hit x s i refl (omega (arith, h)) k))
+    (λ k. omega (arith, on, find-step x s i refl (omega (arith, h)) k (i + 1) refl))
+
+module _ (s : List ℕ) (i : ℕ) where
+  pub there-null : i ≡ 0 → false ≡ isThere (string s i)
+  there-null e = rw (string-none s i (string-null s i e)) refl
+
+  module _ (n : i ≡ 0 → ⊥) where
+    pub there-past : length s ≤ i → false ≡ isThere (string s i)
+    there-past h = rw (string-none s i (string-past s i n h)) refl
+
+    module _ (h : i < length s) where
+      pub there-ended : getD s (length s - 1) 0 ≡ 0 → true ≡ isThere (string s i)
+      there-ended e =
+          let last : i + (length s - 1 - i) ≡ length s - 1 = omega (arith, h) in
+          let k = found-by 0 s (length s - 1 - i) i (omega (arith, h)) (subst (λ (j : ℕ). getD s j 0 ≡ 0) (sym last) e) in
+          rw (string-some s i (string-found s i n h (omega (arith, h, k)) (before 0 (drop i s)) refl)) refl
+
+      pub there-sought : {end : ℕ} → end ≡ i + before 0 (drop i s) → ltb end (length s) ≡ isThere (string s i)
+      there-sought {end} e = by-lt end (length s)
+          (λ k. rw (lt-ltb end (length s) k, string-some s i (string-found s i n h (omega (arith, e, k)) (before 0 (drop i s)) refl)) refl)
+          (λ k. rw (le-ltb end (length s) k, string-none s i (string-open s i n h (omega (arith, e, k)))) refl)
 
 -- Why a string is missing is one of the three reasons; a blob tells none.
 abbrev pub Reasoned : Part → Type 0

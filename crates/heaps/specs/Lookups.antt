@@ -1,6 +1,6 @@
 -- Lookups in the strings heap (ECMA-335 II.24.2.3) and the blob heap (II.24.2.4), and what the raw lookup hands back.
 use mathlib.Core.Path.{_≡_}
-use mathlib.Core.Bool.{cond}
+use mathlib.Core.Bool.{Bool, true, false, cond}
 use mathlib.Core.List.{List, [], _∷_}
 use mathlib.Core.Option.{Option, none, some}
 use Prim.Native.Nat.{ℕ, zero, suc, _+_, _≤_, _<_}
@@ -70,6 +70,11 @@ textOf (missing why) = none
 
 unfoldable pub string : List ℕ → ℕ → Option Text
 string s i = textOf (name s i)
+
+-- Whether a value is there.
+abbrev pub isThere : {A : Type 0} → Option A → Bool
+isThere none = false
+isThere (some a) = true
 
 -- Why it is missing; no reason is told where it is not.
 abbrev pub reasonOf : Name → Reason

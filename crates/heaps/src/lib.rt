@@ -7,7 +7,7 @@ ghost use mathlib.Core.Path.{_≡_};
 ghost use mathlib.Core.Bool.{true};
 ghost use Prim.Native.Nat.{_+_};
 ghost use lib.ListN.{drop};
-ghost use Rattle.heaps.specs.Lookups.{before, Without, stringAt, blobAt, Inside, Handed, Looked};
+ghost use Rattle.heaps.specs.Lookups.{before, Without, stringAt, string, isThere, blobAt, Inside, Handed, Looked};
 
 // Which heap is meant.
 pub enum Heap {
@@ -114,6 +114,23 @@ pub fn get_string(strings: &[u8], index: usize) -> Part
         start: index,
         len: end - index,
     }
+}
+
+// Whether a string is there. In a heap that ends with a zero byte one follows every index, and none is searched for.
+pub fn has_string(strings: &[u8], i: usize) -> bool
+    ensures { λ r. ⌜ r ≡ isThere (string (now (strings .entry)) i) ⌝ }
+{
+    if i == 0 {
+        return false;
+    }
+    let n = strings.len();
+    if n <= i {
+        return false;
+    }
+    if strings[n - 1] == 0 {
+        return true;
+    }
+    find_byte(strings, i, 0) < n
 }
 
 pub fn get_blob(blobs: &[u8], index: usize) -> Part

@@ -20,13 +20,14 @@ use Rattle.header.proofs.Cases.{few-counted}
 use Rattle.layouts.specs.Kinds.{typeDef, methodDef, interfaceImpl, genericParam}
 use Rattle.tables.specs.Extents.{keptRows, sizesIn}
 use Rattle.tables.proofs.Places.{few-rows}
-use Rattle.record.specs.Missing.{over, andThen, orElse, orDefault, present}
+use Rattle.record.specs.Missing.{over, orElse, orDefault, present, firstThere}
+use Rattle.record.specs.Readings.{inBlob}
 use Rattle.record.specs.Rows.{ofKey}
 use Rattle.record.specs.Types.{Env, unless, counted, methodStart, type}
 use Rattle.record.specs.View.{View, viewOf, view, sideRow}
 use Rattle.record.specs.Columns.{owner, genericName, implClass, implInterface, extends, methodSignature}
-use Rattle.record.specs.Names.{rowsIn, sizesOf, classes, classRow, methodRow, classIndex, numberIn, typeNameIn, baseTypes, levels}
-use Rattle.record.specs.Methods.{Signature, Pass, tries, signature, readBy, handle, pass, signatureOf, leftAfter, methodLists}
+use Rattle.record.specs.Names.{rowsIn, sizesOf, classes, classRow, methodRow, classIndex, numberIn, typeNameIn, baseIndices, baseTypes, levels}
+use Rattle.record.specs.Methods.{Signature, tries, signature, signatureBlob, reading, readBy, readers, signatureOf, leftAfter, methodLists}
 use Rattle.record.specs.Record.{parametersFrom, method, class, classRecord}
 use Rattle.record.proofs.Extents.{kept-le}
 use Rattle.record.proofs.Read.{left-le}
@@ -52,10 +53,6 @@ bind-of : {A B : Type 0} (P : B → Type 0) (p : Reader A) (k : A → Reader B) 
     → ((a : A) (next : ℕ) → Of P (k a s next .got)) → Of P ((p >>= k) s at .got)
 bind-of P p k s at f =
     then-of (λ _. Unit {0}) P (p s at .got) (p s at .next) (p s at .steps) (λ a next. k a s next) (any (p s at .got)) (λ a next _. f a next)
-
-and-of : {A B : Type 0} (P : B → Type 0) (o : Option A) (f : A → Option B) → ((a : A) → Of P (f a)) → Of P (andThen o f)
-and-of P none f h = tt
-and-of P (some a) f h = h a
 
 else-of : {A : Type 0} (P : A → Type 0) (o u : Option A) → Of P o → Of P u → Of P (orElse o u)
 else-of P none u h k = k
@@ -102,25 +99,17 @@ signature-small e s at =
     (λ t last _. then-of (λ (l : List (Option Text)). length l ≡ n) SmallSignature (tries n (type e levels) s last .got) _ _ _
     (tries-length n (type e levels) s last) (λ l _ same. omega (arith, same, small))))
 
+blob-small : (e : Env) (o : Option (List ℕ)) → Of SmallSignature (inBlob (signature e) o .got)
+blob-small e none = tt
+blob-small e (some bytes) = signature-small e bytes 0
+
 read-small : (v : View) (m c : ℕ) → Of SmallSignature (readBy v m c)
-unfolding readBy
-read-small v m c =
-    and-of SmallSignature (methodRow v m) _
-    (λ row. and-of SmallSignature (blob (v .blob) (methodSignature (sizesOf v) row)) _ (λ bytes. signature-small _ bytes 0))
+unfolding readBy reading
+read-small v m c = blob-small _ (signatureBlob v m)
 
-handle-small : (m col : ℕ) (g : Option Signature) (p : Pass) → Of SmallSignature g → Of SmallSignature (p .read)
-    → Of SmallSignature (handle m col g p .read)
-unfolding handle
-handle-small m col g p h k =
-    pick (λ (x : Pass). Of SmallSignature (x .read)) (eqb col 0) (λ _. k)
-    (λ _. either-of SmallSignature (leb (col - 1) m && ltb m (p .end)) (orElse g (p .read)) (p .read)
-    (else-of SmallSignature g (p .read) h k) k)
-
-pass-small : (v : View) (m c : ℕ) (cols : List ℕ) → Of SmallSignature (pass v m c cols .read)
-unfolding pass
-pass-small v m c [] = tt
-pass-small v m c (col ∷ later) =
-    handle-small m col (readBy v m c) (pass v m (c + 1) later) (read-small v m c) (pass-small v m (c + 1) later)
+readings-small : (v : View) (m : ℕ) (l : List ℕ) → Of SmallSignature (firstThere (map (readBy v m) l))
+readings-small v m [] = tt
+readings-small v m (c ∷ l) = else-of SmallSignature (readBy v m c) (firstThere (map (readBy v m) l)) (read-small v m c) (readings-small v m l)
 
 parameters-length : (v : View) (m i : ℕ) (ts : List (Option Text)) → length (parametersFrom v m i ts) ≡ length ts
 parameters-length v m i [] = refl
@@ -133,7 +122,7 @@ parameters-small v m (some g) h = omega (arith, parameters-length v m 0 (g .para
 
 method-parameters : (v : View) (m : ℕ) → Small (length (method v m .parameters))
 unfolding method signatureOf
-method-parameters v m = parameters-small v m (signatureOf v m) (pass-small v m 0 (methodLists v 0 (classes v)))
+method-parameters v m = parameters-small v m (signatureOf v m) (readings-small v m (readers v m))
 
 -- ---- At most 15,000 rows
 
@@ -201,12 +190,12 @@ module _ (t strings heap : List ℕ) where
   few-method m = record { generics = omega (arith, generics-few (2 * (m + 1) + 1)); parameters = omega (arith, method-parameters v m) }
 
   bases-few : (c : ℕ) → length (baseTypes v c) ≤ 15001
-  unfolding baseTypes
+  unfolding baseTypes baseIndices
   bases-few c =
       omega (
         arith,
         interfaces-few (classIndex c),
-        present-few (typeNameIn v c) (numberIn v extends (classRow v c) ∷ v .interfaces (classIndex c)),
+        present-few (typeNameIn v c) (baseIndices v c),
       )
 
   left-few : (c : ℕ) → leftAfter v c ≤ 15000

@@ -9,17 +9,20 @@ use method_signatures::Typed;
 use places::ClassRow;
 use places::MethodRow;
 use rows::columns;
+use steps::Steps;
 ghost use mathlib.Core.Path.{_≡_};
 ghost use mathlib.Core.List.{List};
 ghost use Prim.Native.Nat.{ℕ, _<_, _≤_};
 ghost use lib.ListN.{length};
 ghost use Rattle.buffers.specs.Telling.{ToldIs};
 ghost use Rattle.record.specs.Answers.{Numbered, methodCount, methodFlags, methodName, methodGenericCount, methodGenericName, returnType, parameterCount, parameterType, parameterName};
+ghost use Rattle.record.specs.Allowance.{countOf, methodWork};
 ghost use Rattle.rows.specs.Columns as columns;
 ghost use Rattle.rows.specs.Layout.{Laid, rowsAt, viewIn};
 ghost use Rattle.places.specs.Places.{MethodRowIs};
 ghost use Rattle.places.specs.declared.MethodRow.the-variants.{Row};
 ghost use Rattle.method_signatures.specs.Known.{KnowsSignature};
+ghost use Rattle.steps.specs.Counting.{Takes};
 
 // How many methods a class has (II.22.26).
 pub fn count_methods_of(tables: &[u8], layout: &[u32], class: ClassNumber) -> Reply
@@ -150,6 +153,7 @@ pub fn tell_return_type_of(
     strings: &[u8],
     blob: &[u8],
     layout: &[u32],
+    taker: ClassNumber,
     row: MethodRow,
 ) -> Typed
     requires { ⌜ Laid (now tables) (now layout) ⌝ }
@@ -165,6 +169,7 @@ pub fn tell_return_type_of(
             strings,
             blob,
             layout,
+            taker,
             i,
         ),
         MethodRow::NoRow => {
@@ -183,6 +188,7 @@ pub fn count_params_of(
     strings: &[u8],
     blob: &[u8],
     layout: &[u32],
+    taker: ClassNumber,
     row: MethodRow,
 ) -> Reply
     requires { ⌜ Laid (now tables) (now layout) ⌝ }
@@ -195,6 +201,7 @@ pub fn count_params_of(
             strings,
             blob,
             layout,
+            taker,
             i,
         )),
         MethodRow::NoRow => Reply::No(Refusal::NoSuchRow),
@@ -209,6 +216,7 @@ pub fn tell_param_type_of(
     strings: &[u8],
     blob: &[u8],
     layout: &[u32],
+    taker: ClassNumber,
     row: MethodRow,
     p: u32,
     known: Signature,
@@ -227,6 +235,7 @@ pub fn tell_param_type_of(
             strings,
             blob,
             layout,
+            taker,
             i,
             p,
             known,
@@ -246,6 +255,7 @@ pub fn tell_param_name_of(
     strings: &[u8],
     blob: &[u8],
     layout: &[u32],
+    taker: ClassNumber,
     row: MethodRow,
     p: u32,
     known: Signature,
@@ -264,6 +274,7 @@ pub fn tell_param_name_of(
             strings,
             blob,
             layout,
+            taker,
             i,
             p,
             known,
@@ -272,5 +283,27 @@ pub fn tell_param_name_of(
             told: Told::NoRow,
             signature: known,
         },
+    }
+}
+
+// What all readings of a method's signature take of the steps: nothing where there is no such method.
+pub fn pass_readings_of(
+    tables: &[u8],
+    strings: &[u8],
+    blob: &[u8],
+    layout: &[u32],
+    taker: ClassNumber,
+    row: MethodRow,
+    steps: u64,
+) -> Steps
+    requires { ⌜ Laid (now tables) (now layout) ⌝ }
+    ensures { λ r. let v = viewIn (now (tables .entry)) (now (layout .entry)) (now (strings .entry)) (now (blob .entry)) in
+        ⌜ ((c m : ℕ) → MethodRowIs v c m row → Takes (countOf (methodWork v c m)) steps r) ⌝ }
+{
+    match row_inside(layout, row) {
+        MethodRow::Row(i) => {
+            method_signatures::pass_readings(tables, strings, blob, layout, taker, i, steps)
+        }
+        MethodRow::NoRow => Steps::Left(steps),
     }
 }

@@ -2,17 +2,17 @@
 -- reading stands. Assumes nothing.
 use mathlib.Core.Path.{_≡_, refl, sym, ap, subst, _∙_}
 use mathlib.Core.Bool.{Bool, true, false, cond, _&&_}
-use mathlib.Core.List.{List}
+use mathlib.Core.List.{List, [], _∷_, map}
 use mathlib.Core.Option.{Option, none, some}
 use Prim.Native.Nat.{ℕ, zero, suc, _+_, _-_, _*_, _≤_, _<_}
 use mathlib.Core.Logic.{⊎-elim}
 use native.Mathlib.Nat.{sub-zero, eq-zero-or-pos}
 use native.Mathlib.Omega.{arith}
 use borrow.Author.Tests.{eq-eqb, ne-eqb, le-leb, lt-leb, lt-ltb, le-ltb}
-use lib.Dec.{eqb, leb, ltb, leb→le}
+use lib.Dec.{T, eqb, leb, ltb, leb→le, ltb→lt}
 use lib.ListN.{length}
 use Rattle.numbers.specs.Lists.{tabulate}
-use Rattle.numbers.specs.Reading.{Reader, someAt, noneAt}
+use Rattle.numbers.specs.Reading.{Res, Reader, someAt, noneAt}
 use Rattle.numbers.specs.Compressed.{uintSays}
 use Rattle.numbers.specs.Parts.{part}
 use Rattle.numbers.specs.declared.Uint.{Uint}
@@ -26,21 +26,21 @@ use Rattle.heaps.specs.declared.Part.{Part}
 use Rattle.heaps.specs.declared.Part.the-variants.{Found, Absent}
 use Rattle.heaps.proofs.Lookups.{blob-within}
 use Rattle.layouts.specs.Kinds.{methodDef}
-use Rattle.layouts.proofs.Reaches.{and-left}
+use Rattle.layouts.proofs.Reaches.{and-left, and-right}
 use Rattle.classes.specs.Numbering.{classAt}
 use Rattle.classes.specs.declared.ClassNumber.{ClassNumber}
-use Rattle.record.specs.Missing.{andThen, orElse}
+use Rattle.record.specs.Missing.{andThen, firstThere}
+use Rattle.record.specs.Readings.{inBlob}
 use Rattle.record.specs.Columns.{methodList, methodSignature}
 use Rattle.record.specs.View.{View, viewOf}
 use Rattle.record.specs.Types.{Env, methodStart, type}
 use Rattle.record.specs.Names.{rowsIn, sizesOf, numberIn, classes, classRow, env, levels, classGenerics, methodGenerics}
-use Rattle.record.specs.Methods.{Signature, Pass, tries, signature, readBy, methodLists, handle, pass, signatureOf}
+use Rattle.record.specs.Methods.{Signature, tries, signature, signatureBlob, reading, readBy, methodLists, endBefore, reads, readersAmong, readersFrom, signatureOf}
 use Rattle.record.proofs.Read.{method-row}
 use Rattle.rows.specs.Columns as columns
 use Rattle.rows.specs.Layout.{Laid, Ascends, rowsAt, cell, optionsIn, viewIn}
 use Rattle.rows.proofs.Laws.{rows-at}
 use Rattle.rows.proofs.Classes.{classes-are, methods-are, list-at}
-use Rattle.keys.specs.Keyed.{SplitAt}
 use Rattle.rendering.specs.Rendered.{Rendered}
 use Rattle.rendering.specs.declared.Rendering.{Rendering}
 use Rattle.rendering.specs.declared.Rendering.the-variants.{Done, Failed}
@@ -48,7 +48,7 @@ use Rattle.rendering.proofs.Laws.{rendered-done, rendered-failed}
 use Rattle.sig_leaves.specs.declared.Owner.the-variants.{Of}
 use Rattle.sig_leaves.proofs.Specs.{blob-some, blob-absent}
 use Rattle.signatures.specs.Environment.{envIn}
-use Rattle.method_signatures.specs.Signatures.{typesFrom, behind, readFrom, ReadFrom, ReaderIs, ReadingIs, read, missing}
+use Rattle.method_signatures.specs.Signatures.{typesFrom, behind, ReadFrom, PastMethod, ReaderIs, ReadingIs, read, missing}
 use Rattle.method_signatures.specs.declared.ClassReader.{ClassReader}
 use Rattle.method_signatures.specs.declared.ClassReader.the-variants.{By, Nobody}
 use Rattle.method_signatures.specs.declared.Reading.{Reading}
@@ -99,25 +99,33 @@ module _ {t l : List ℕ} (laid : Laid t l) (strings heap : List ℕ) (m c : ℕ
   abbrev e : Env
   e = env v (classGenerics v c) (methodGenerics v m)
 
-  by-class : readBy v m c ≡ andThen (blob heap (cell t l columns.methodSignature m)) (λ bytes. signature e bytes 0 .got)
-  unfolding readBy viewOf
+  by-class : reading v m c ≡ inBlob (signature e) (blob heap (cell t l columns.methodSignature m))
+  unfolding reading signatureBlob viewOf
   by-class =
-      ap (λ (r : Option (List ℕ)). andThen r (λ row. andThen (blob heap (methodSignature (sizesOf v) row)) (λ bytes. signature e bytes 0 .got)))
+      ap (λ (r : Option (List ℕ)). inBlob (signature e) (andThen r (λ row. blob heap (methodSignature (sizesOf v) row))))
       (method-row (optionsIn l) t strings heap m (omega (arith, rows-at laid columns.methodSignature (omega arith))))
 
   module _ {p : Part} {i : ℕ} (told : i ≡ cell t l columns.methodSignature m) (looked : p ≡ blobAt heap i) where
     looked-at : p ≡ blobAt heap (cell t l columns.methodSignature m)
     looked-at = looked ∙ ap (blobAt heap) told
 
+    pub unread-blob : {why : Reason} → p ≡ Absent why → reading v m c ≡ noneAt 0
+    unread-blob f = by-class ∙ ap (inBlob (signature e)) (blob-absent heap (cell t l columns.methodSignature m) (sym f ∙ looked-at))
+
     pub no-blob : (b : List ℕ) (at : ℕ) {why : Reason} → p ≡ Absent why → ReadingIs v heap m (readBy v m c) b at b Missing
-    no-blob b at f = missing (by-class ∙ ap (λ (o : Option (List ℕ)). andThen o (λ bytes. signature e bytes 0 .got)) (blob-absent heap (cell t l columns.methodSignature m) (sym f ∙ looked-at))) (kept-same b at)
+    unfolding readBy
+    no-blob b at f = missing (ap (λ (d : Res Signature). d .got) (unread-blob f)) (kept-same b at)
 
     module _ {start len : ℕ} (f : p ≡ Found start len) where
       pub inside : start + len ≤ length heap
       inside = blob-within heap (cell t l columns.methodSignature m) (sym f ∙ looked-at)
 
+      pub read-part : reading v m c ≡ signature e (part heap start len) 0
+      read-part = by-class ∙ ap (inBlob (signature e)) (blob-some heap (cell t l columns.methodSignature m) (sym f ∙ looked-at))
+
       of-part : readBy v m c ≡ signature e (part heap start len) 0 .got
-      of-part = by-class ∙ ap (λ (o : Option (List ℕ)). andThen o (λ bytes. signature e bytes 0 .got)) (blob-some heap (cell t l columns.methodSignature m) (sym f ∙ looked-at))
+      unfolding readBy
+      of-part = ap (λ (d : Res Signature). d .got) read-part
 
       module _ {sig : List ℕ} (is : sig ≡ part heap start len) (u : Uint) (counted : uintSays u ≡ methodStart sig 0) where
         start-at : uintSays u ≡ methodStart (part heap start len) 0
@@ -183,145 +191,137 @@ module _ {v : View} {heap : List ℕ} {m : ℕ} {d : Option Signature} {b b′ :
 
 -- ---- Within a class's methods
 
--- What class c makes of method m's signature if it reads the methods from its first up to an end.
-unfoldable pub readWithin : View → ℕ → ℕ → ℕ → ℕ → Option Signature
-readWithin v m c first end = cond (leb first m && ltb m end) (readBy v m c) none
+-- The classes that read method m, where class c has the methods from its first up to an end, and these others read it.
+unfoldable pub within : ℕ → ℕ → ℕ → ℕ → List ℕ → List ℕ
+within m c first end others = cond (leb first m && ltb m end) (c ∷ others) others
 
-module _ (v : View) (m c first end : ℕ) where
-  within-before : m < first → readWithin v m c first end ≡ none
-  unfolding readWithin
+module _ (m c first end : ℕ) (others : List ℕ) where
+  within-before : m < first → within m c first end others ≡ others
+  unfolding within
   within-before h = rw (lt-leb first m h)
 
-  within-inside : first ≤ m → m < end → readWithin v m c first end ≡ readBy v m c
-  unfolding readWithin
+  within-inside : first ≤ m → m < end → within m c first end others ≡ c ∷ others
+  unfolding within
   within-inside h k = rw (le-leb first m h, lt-ltb m end k)
 
   -- By what the code tests.
   module _ {b : Bool} (e : b ≡ (leb first m && ltb m end)) where
-    within-none : b ≡ false → readWithin v m c first end ≡ none
-    unfolding readWithin
+    within-none : b ≡ false → within m c first end others ≡ others
+    unfolding within
     within-none f = rw (sym e ∙ f)
 
-    within-has : b ≡ true → readWithin v m c first end ≡ readBy v m c
-    unfolding readWithin
+    within-has : b ≡ true → within m c first end others ≡ c ∷ others
+    unfolding within
     within-has f = rw (sym e ∙ f)
 
--- ---- The scan for the class whose reading stands
+-- ---- The scan for the classes that read a method
 
-or-either : {A : Type 0} (t : Bool) (a b : Option A) → cond t (orElse a b) b ≡ orElse (cond t a none) b
-or-either true a b = refl
-or-either false a b = refl
-
-not-read : (b c : Bool) (p : Pass) (e : ℕ) (r : Option Signature) → cond b p (record { end = e; read = cond (c && false) r (p .read) }) .read ≡ p .read
-not-read true c p e r = refl
-not-read false true p e r = refl
-not-read false false p e r = refl
+not-read : (z b : Bool) (c : ℕ) (others : List ℕ) → cond (cond z false (b && false)) (c ∷ others) others ≡ others
+not-read true b c others = refl
+not-read false true c others = refl
+not-read false false c others = refl
 
 module _ (v : View) (m : ℕ) where
-  -- The pass over the classes from c on.
-  abbrev later : ℕ → Pass
-  later c = pass v m c (methodLists v c (classes v - c))
+  -- The classes from i on: which read the method, and where the methods end of the class before them.
+  abbrev later : ℕ → List ℕ
+  later i = readersFrom v m i
 
-  -- What s says is what the class in hand makes of it, which has the methods from first on, or else what the classes from i on do.
-  abbrev pub Standing : Option Signature → ℕ → ℕ → ℕ → Type 0
-  Standing s i c first = s ≡ orElse (readWithin v m c first (later i .end)) (later i .read)
+  unfoldable pub ending : ℕ → ℕ
+  ending i = endBefore (rowsIn v methodDef) (methodLists v i (classes v - i))
 
-  pub from-all : ReadFrom v m 0
-  unfolding signatureOf readFrom
-  from-all = ap (λ (n : ℕ). pass v m 0 (methodLists v 0 n) .read) (sym (sub-zero (classes v)))
+  -- The classes l are the one in hand, which has the methods from first on, if it reads the method, and those from i on.
+  abbrev pub Standing : List ℕ → ℕ → ℕ → ℕ → Type 0
+  Standing l i c first = l ≡ within m c first (ending i) (later i)
 
-  pub stand-from : (i c : ℕ) → Standing (readFrom v m i) i c (m + 1)
-  unfolding readFrom
-  stand-from i c = rw (within-before v m c (m + 1) (later i .end) (omega arith))
-
-  later-end : (i n : ℕ) → n ≡ 0 → pass v m i (methodLists v i n) ≡ record { end = rowsIn v methodDef; read = none }
-  unfolding pass tabulate
-  later-end i n e = rw e
-
-  later-more : (i n : ℕ) → pass v m i (methodLists v i (suc n)) ≡ handle m (numberIn v methodList (classRow v i)) (readBy v m i) (pass v m (i + 1) (methodLists v (i + 1) n))
-  unfolding pass tabulate
-  later-more i n = refl
+  pub stand-from : (i c : ℕ) → Standing (later i) i c (m + 1)
+  stand-from i c = sym (within-before m c (m + 1) (ending i) (later i) (omega arith))
 
   module _ (i : ℕ) (h : i < classes v) {col : ℕ} (read : col ≡ numberIn v methodList (classRow v i)) where
-    later-step : later i ≡ handle m col (readBy v m i) (later (i + 1))
-    later-step =
-        let e : classes v - i ≡ suc (classes v - (i + 1)) = omega arith in
-        ap (λ (n : ℕ). pass v m i (methodLists v i n)) e ∙ later-more i (classes v - (i + 1))
-        ∙ ap (λ (x : ℕ). handle m x (readBy v m i) (later (i + 1))) (sym read)
+    one-more : classes v - i ≡ suc (classes v - (i + 1))
+    one-more = omega arith
 
-    later-skip : col ≡ 0 → later i ≡ later (i + 1)
-    unfolding handle
-    later-skip z = later-step ∙ rw (eq-eqb col 0 z)
+    ending-step : ending i ≡ cond (eqb col 0) (ending (i + 1)) (col - 1)
+    unfolding ending endBefore tabulate
+    ending-step = rw (one-more, read)
 
-    later-handle : (col ≡ 0 → ⊥) → later i ≡ record {
-      end = col - 1;
-      read = cond (leb (col - 1) m && ltb m (later (i + 1) .end)) (orElse (readBy v m i) (later (i + 1) .read)) (later (i + 1) .read);
-    }
-    unfolding handle
-    later-handle z = later-step ∙ rw (ne-eqb col 0 z)
+    later-step : later i ≡ cond (reads m col (ending (i + 1))) (i ∷ later (i + 1)) (later (i + 1))
+    unfolding readersFrom readersAmong ending tabulate
+    later-step = rw (one-more, read)
 
-    -- A class whose methods end at or below m has no say.
-    passed-over : later (i + 1) .end ≤ m → later i .read ≡ later (i + 1) .read
-    unfolding handle
-    passed-over e =
-        ap (λ (p : Pass). p .read) later-step
-        ∙ rw (le-ltb m (later (i + 1) .end) e) (not-read (eqb col 0) (leb (col - 1) m) (later (i + 1)) (col - 1) _)
+    -- A class whose methods end at or below m does not read it.
+    passed-over : ending (i + 1) ≤ m → later i ≡ later (i + 1)
+    unfolding reads
+    passed-over e = later-step ∙ rw (le-ltb m (ending (i + 1)) e) (not-read (eqb col 0) (leb (col - 1) m) i (later (i + 1)))
 
-    module _ (s : Option Signature) (c first : ℕ) (inv : Standing s i c first) where
-      pub stand-skip : col ≡ 0 → Standing s (i + 1) c first
-      stand-skip z = rw (later-skip z) at inv
+    -- Nor does one that begins past it.
+    begins-past : m + 1 < col → later i ≡ later (i + 1)
+    unfolding reads
+    begins-past e = later-step ∙ rw (ne-eqb col 0 (λ z. omega arith), lt-leb (col - 1) m (omega arith))
+
+    module _ (z : col ≡ 0) where
+      ending-skip : ending i ≡ ending (i + 1)
+      ending-skip = ending-step ∙ rw (eq-eqb col 0 z)
+
+      later-skip : later i ≡ later (i + 1)
+      unfolding reads
+      later-skip = later-step ∙ rw (eq-eqb col 0 z)
+
+    module _ (z : col ≡ 0 → ⊥) where
+      ending-met : ending i ≡ col - 1
+      ending-met = ending-step ∙ rw (ne-eqb col 0 z)
+
+      later-met : later i ≡ within m i (col - 1) (ending (i + 1)) (later (i + 1))
+      unfolding reads within
+      later-met = later-step ∙ rw (ne-eqb col 0 z)
+
+    module _ (l : List ℕ) (c first : ℕ) (inv : Standing l i c first) where
+      pub stand-skip : col ≡ 0 → Standing l (i + 1) c first
+      stand-skip z = rw (ending-skip z, later-skip z) at inv
 
       module _ (z : col ≡ 0 → ⊥) {b : Bool} (has : b ≡ (leb first m && ltb m (col - 1))) where
-        met : s ≡ orElse (readWithin v m c first (col - 1)) (later i .read)
-        met = inv ∙ ap (λ (p : Pass). orElse (readWithin v m c first (p .end)) (later i .read)) (later-handle z)
+        met : l ≡ within m c first (col - 1) (later i)
+        met = inv ∙ ap (λ (end : ℕ). within m c first end (later i)) (ending-met z)
 
-        pub stand-read : b ≡ true → s ≡ orElse (readBy v m c) (readFrom v m i)
-        unfolding readFrom
-        stand-read e = met ∙ ap (λ (o : Option Signature). orElse o (later i .read)) (within-has v m c first (col - 1) has e)
+        pub stand-read : b ≡ true → l ≡ c ∷ later i
+        stand-read e = met ∙ within-has m c first (col - 1) (later i) has e
 
-        pub stand-next : b ≡ false → Standing s (i + 1) i (col - 1)
-        unfolding readWithin
-        stand-next e =
-            met ∙ ap (λ (o : Option Signature). orElse o (later i .read)) (within-none v m c first (col - 1) has e)
-            ∙ ap (λ (p : Pass). p .read) (later-handle z)
-            ∙ or-either (leb (col - 1) m && ltb m (later (i + 1) .end)) (readBy v m i) (later (i + 1) .read)
+        pub stand-next : b ≡ false → Standing l (i + 1) i (col - 1)
+        stand-next e = met ∙ within-none m c first (col - 1) (later i) has e ∙ later-met z
 
-  -- A class has no say if the next one begins at or below m, or if neither begins.
+  -- A class does not read the method if the next one begins at or below m, or if neither begins.
   from-next : (i : ℕ) → i + 1 < classes v → {x y : ℕ} → x ≡ numberIn v methodList (classRow v i) → y ≡ numberIn v methodList (classRow v (i + 1))
       → x ≤ y → y < m + 2 → ReadFrom v m i → ReadFrom v m (i + 1)
-  unfolding readFrom
   from-next i h {x} {y} ex ey up lo from =
-      ⊎-elim (λ z. from ∙ ap (λ (p : Pass). p .read) (later-skip i (omega arith) ex (omega arith)))
+      ⊎-elim (λ z. from ∙ later-skip i (omega arith) ex (omega arith))
       (λ z.
-      let begins : later (i + 1) .end ≡ y - 1 = ap (λ (p : Pass). p .end) (later-handle (i + 1) h ey (λ e. omega arith)) in
+      let begins : ending (i + 1) ≡ y - 1 = ending-met (i + 1) h ey (λ e. omega arith) in
       from ∙ passed-over i (omega arith) ex (omega arith))
       (eq-zero-or-pos y)
 
   -- Behind the last class.
   module _ (i : ℕ) (h : classes v ≤ i) where
-    last : later i ≡ record { end = rowsIn v methodDef; read = none }
-    last = later-end i (classes v - i) (omega arith)
+    none-left : classes v - i ≡ 0
+    none-left = omega arith
 
-    pub from-none : readFrom v m i ≡ none
-    unfolding readFrom
-    from-none = ap (λ (p : Pass). p .read) last
+    ending-last : ending i ≡ rowsIn v methodDef
+    unfolding ending endBefore tabulate
+    ending-last = rw none-left
 
-    module _ (s : Option Signature) (c first : ℕ) (inv : Standing s i c first) where
-      pub end-read : first ≤ m → m < rowsIn v methodDef → s ≡ orElse (readBy v m c) (readFrom v m i)
-      unfolding readFrom
-      end-read lo hi =
-          let all : later i .end ≡ rowsIn v methodDef = ap (λ (p : Pass). p .end) last in
-          inv ∙ ap (λ (o : Option Signature). orElse o (later i .read)) (within-inside v m c first (later i .end) lo (omega arith))
+    pub later-last : later i ≡ []
+    unfolding readersFrom readersAmong tabulate
+    later-last = rw none-left
 
-      pub end-none : m < first → s ≡ none
-      end-none hi =
-          inv ∙ ap (λ (o : Option Signature). orElse o (later i .read)) (within-before v m c first (later i .end) hi)
-          ∙ ap (λ (p : Pass). p .read) last
+    module _ (l : List ℕ) (c first : ℕ) (inv : Standing l i c first) where
+      pub end-read : first ≤ m → m < rowsIn v methodDef → l ≡ c ∷ later i
+      end-read lo hi = inv ∙ within-inside m c first (ending i) (later i) lo (omega (arith, ending-last))
+
+      pub end-none : m < first → l ≡ []
+      end-none hi = inv ∙ within-before m c first (ending i) (later i) hi ∙ later-last
 
 -- The columns that the scan reads.
 module _ {t l : List ℕ} (laid : Laid t l) (strings heap : List ℕ) where
   -- A turn of the scan, at a row of TypeDef from 0: the class there has the number before it.
-  module _ (m : ℕ) {row : ℕ} (z : 0 < row) (h : row < rowsAt l columns.methodList) {col : ℕ} (read : col ≡ cell t l columns.methodList row) (s : Option Signature) (c first : ℕ)
+  module _ (m : ℕ) {row : ℕ} (z : 0 < row) (h : row < rowsAt l columns.methodList) {col : ℕ} (read : col ≡ cell t l columns.methodList row) (s : List ℕ) (c first : ℕ)
       (inv : Standing (viewIn t l strings heap) m s (row - 1) c first) where
     abbrev w : View
     w = viewIn t l strings heap
@@ -341,29 +341,44 @@ module _ {t l : List ℕ} (laid : Laid t l) (strings heap : List ℕ) where
     turn-skip e = subst (λ (i : ℕ). Standing w m s i c first) next-row (stand-skip w m (row - 1) is-class its-list s c first inv e)
 
     module _ (n : col ≡ 0 → ⊥) {b : Bool} (has : b ≡ (leb first m && ltb m (col - 1))) where
-      pub turn-read : b ≡ true → s ≡ orElse (readBy w m c) (readFrom w m (row - 1))
+      pub turn-read : b ≡ true → s ≡ c ∷ readersFrom w m (row - 1)
       turn-read e = stand-read w m (row - 1) is-class its-list s c first inv n has e
 
       pub turn-next : b ≡ false → {next : ClassNumber} → next ≡ classAt row → Standing w m s (row + 1 - 1) (next .0) (col - 1)
       turn-next e is =
           rw is (subst (λ (i : ℕ). Standing w m s i (row - 1) (col - 1)) next-row (stand-next w m (row - 1) is-class its-list s c first inv n has e))
 
-  -- Where MethodList ascends: of the rows that begin at or below m the last is that of a class before which none has a say.
-  pub from-begun : Ascends (cell t l columns.methodList) (rowsAt l columns.methodList) → (m : ℕ) {n : ℕ} → SplitAt (cell t l columns.methodList) (m + 2) (rowsAt l columns.methodList) n → (c : ℕ) → c + 2 ≤ n
-      → ReadFrom (viewIn t l strings heap) m c
-  from-begun up m s zero h = from-all (viewIn t l strings heap) m
-  from-begun up m s (suc c) h =
-      let one : suc c ≡ c + 1 = omega arith in
-      let all = classes-are laid strings heap columns.methodList (omega arith) refl in
-      let here = list-at laid strings heap c (omega (arith, s .within)) in
-      let next = list-at laid strings heap (c + 1) (omega (arith, s .within)) in
-      let from = from-next (viewIn t l strings heap) m c (omega (arith, s .within)) (sym here) (sym next) (up (c + 1) (omega (arith, s .within)))
-      (s .below (c + 1 + 1) (omega arith)) (from-begun up m s c (omega arith)) in
-      subst (ReadFrom (viewIn t l strings heap) m) (sym one) from
+  module _ (up : Ascends (cell t l columns.methodList) (rowsAt l columns.methodList)) (m : ℕ) where
+    -- Where MethodList ascends: no class reads the method before one that begins at or below m.
+    pub from-begun : (c : ℕ) → c + 1 < rowsAt l columns.methodList → cell t l columns.methodList (c + 1) < m + 2 → ReadFrom (viewIn t l strings heap) m c
+    from-begun zero h lo = refl
+    from-begun (suc c) h lo =
+        let one : suc c ≡ c + 1 = omega arith in
+        let all = classes-are laid strings heap columns.methodList (omega arith) refl in
+        let here = list-at laid strings heap c (omega arith) in
+        let next = list-at laid strings heap (c + 1) (omega arith) in
+        let below = up (c + 1) (omega arith) in
+        let low : cell t l columns.methodList (c + 1 + 1) < m + 2 = rw (← one) lo in
+        subst (ReadFrom (viewIn t l strings heap) m) (sym one)
+        (from-next (viewIn t l strings heap) m c (omega arith) (sym here) (sym next) below low (from-begun c (omega arith) (omega arith)))
+
+    -- And none from one on that begins past it: n classes follow.
+    past-all : (n c : ℕ) → n ≡ classes (viewIn t l strings heap) - c → PastMethod (viewIn t l strings heap) m c → readersFrom (viewIn t l strings heap) m c ≡ []
+    past-all zero c e past = later-last (viewIn t l strings heap) m c (omega arith)
+    past-all (suc n) c e past =
+        let all = classes-are laid strings heap columns.methodList (omega arith) refl in
+        let inside : c < classes (viewIn t l strings heap) = omega arith in
+        let here = list-at laid strings heap c inside in
+        let next : PastMethod (viewIn t l strings heap) m (c + 1) =
+        λ h. omega (arith, past inside, here, list-at laid strings heap (c + 1) h, up (c + 1) (omega arith)) in
+        begins-past (viewIn t l strings heap) m c inside refl (past inside) ∙ past-all n (c + 1) (omega arith) next
+
+    pub past-none : (c : ℕ) → PastMethod (viewIn t l strings heap) m c → readersFrom (viewIn t l strings heap) m c ≡ []
+    past-none c = past-all _ c refl
 
   -- What the scan from a class on answers.
   module _ (m from : ℕ) (class : ClassNumber) (first row : ℕ)
-      (inv : Standing (viewIn t l strings heap) m (readFrom (viewIn t l strings heap) m from) (row - 1) (class .0) first) where
+      (inv : Standing (viewIn t l strings heap) m (readersFrom (viewIn t l strings heap) m from) (row - 1) (class .0) first) where
     abbrev u : View
     u = viewIn t l strings heap
 
@@ -371,7 +386,12 @@ module _ {t l : List ℕ} (laid : Laid t l) (strings heap : List ℕ) where
         → ReaderIs u m from (By class next)
     read-last h lo f e is =
         let all = classes-are laid strings heap columns.methodList (omega arith) refl in
-        rw is (omega arith, omega arith, end-read u m (row - 1) (omega arith) _ (class .0) first inv lo (omega (arith, methods-are laid strings heap columns.methodSignature (omega arith) refl)))
+        rw is (
+          omega arith,
+          omega arith,
+          end-read u m (row - 1) (omega arith) _ (class .0) first inv lo (omega (arith, methods-are laid strings heap columns.methodSignature (omega arith) refl)),
+          λ k. absurd (omega arith),
+        )
 
     pub read-nobody : m < first → rowsAt l columns.methodList ≤ row → ReaderIs u m from Nobody
     read-nobody hi e = end-none u m (row - 1) (omega (arith, classes-are laid strings heap columns.methodList (omega arith) refl)) _ (class .0) first inv hi
@@ -380,17 +400,38 @@ module _ {t l : List ℕ} (laid : Laid t l) (strings heap : List ℕ) where
         (n : col ≡ 0 → ⊥) {b : Bool} (has : b ≡ (leb first m && ltb m (col - 1))) where
       pub read-met : b ≡ true → 0 < row → {next : ClassNumber} → next ≡ classAt row → ReaderIs u m from (By class next)
       read-met e z is =
-          let lo : first ≤ m = leb→le first m (and-left (leb first m) (ltb m (col - 1)) (rw (sym has ∙ e) tt)) in
+          let both : T (leb first m && ltb m (col - 1)) = rw (sym has ∙ e) tt in
+          let lo : first ≤ m = leb→le first m (and-left (leb first m) (ltb m (col - 1)) both) in
+          let hi : m < col - 1 = ltb→lt m (col - 1) (and-right (leb first m) (ltb m (col - 1)) both) in
           let after = f lo in
-          rw is (omega arith, omega (arith, classes-are laid strings heap columns.methodList (omega arith) refl), turn-read m z h read _ (class .0) first inv n has e)
+          rw is (
+            omega arith,
+            omega (arith, classes-are laid strings heap columns.methodList (omega arith) refl),
+            turn-read m z h read _ (class .0) first inv n has e,
+            λ k. subst (λ (x : ℕ). m + 1 < x) (its-list m z h read _ (class .0) first inv) (omega arith),
+          )
 
 pub reader-is : (v : View) (m c : ℕ) {r r′ : ClassReader} → ReaderIs v m c r → r ≡ r′ → ReaderIs v m c r′
 reader-is v m c h e = subst (ReaderIs v m c) e h
 
 -- A reading that fails leaves it to the classes behind.
-module _ (v : View) (m c reader next : ℕ) (from : ReadFrom v m c) (is : readFrom v m c ≡ orElse (readBy v m reader) (readFrom v m next)) where
-  pub reader-stands : (s : Signature) → readBy v m reader ≡ some s → signatureOf v m ≡ some s
-  reader-stands s e = from ∙ is ∙ rw e
+unfoldable pub standing : View → ℕ → ℕ → Option Signature
+standing v m c = firstThere (map (readBy v m) (readersFrom v m c))
 
-  pub reader-fails : readBy v m reader ≡ none → ReadFrom v m next
-  reader-fails e = from ∙ is ∙ rw e
+module _ (v : View) (m : ℕ) where
+  pub standing-all : (c : ℕ) → ReadFrom v m c → signatureOf v m ≡ standing v m c
+  unfolding signatureOf standing
+  standing-all c e = ap (λ (l : List ℕ). firstThere (map (readBy v m) l)) e
+
+  pub standing-none : (c : ℕ) → readersFrom v m c ≡ [] → standing v m c ≡ none
+  unfolding standing
+  standing-none c e = rw e
+
+  module _ (c reader next : ℕ) (from : signatureOf v m ≡ standing v m c) (is : readersFrom v m c ≡ reader ∷ readersFrom v m next) where
+    pub reader-stands : (s : Signature) → readBy v m reader ≡ some s → signatureOf v m ≡ some s
+    unfolding standing
+    reader-stands s e = from ∙ rw (is, e)
+
+    pub reader-fails : readBy v m reader ≡ none → signatureOf v m ≡ standing v m next
+    unfolding standing
+    reader-fails e = from ∙ rw (is, e)

@@ -1,3 +1,4 @@
 pub mod Laws
 pub mod Values
 pub mod Known
+pub mod Steps

@@ -9,11 +9,11 @@ use Rattle.numbers.specs.Reading.{Reader}
 use Rattle.numbers.specs.Parts.{part}
 use Rattle.buffers.specs.Texts.{Text}
 use Rattle.buffers.specs.Writes.{Kept, Wrote}
-use Rattle.record.specs.Missing.{orElse}
+use Rattle.record.specs.Columns.{methodList}
 use Rattle.record.specs.View.{View}
 use Rattle.record.specs.Types.{type}
-use Rattle.record.specs.Names.{env, levels, classes, methodGenerics}
-use Rattle.record.specs.Methods.{Signature, readBy, methodLists, pass, signatureOf}
+use Rattle.record.specs.Names.{env, levels, numberIn, classes, classRow, methodGenerics}
+use Rattle.record.specs.Methods.{Signature, readersFrom, readers}
 use Rattle.method_signatures.specs.declared.ClassReader.{ClassReader}
 use Rattle.method_signatures.specs.declared.ClassReader.the-variants.{By, Nobody}
 use Rattle.method_signatures.specs.declared.Reading.{Reading}
@@ -33,18 +33,19 @@ unfoldable pub behind : Reader Text → ℕ → List ℕ → ℕ → ℕ
 behind type zero s at = at
 behind type (suc n) s at = behind type n s (type s at .next)
 
--- What the pass over the classes from c on makes of method m's signature; and that it is the signature: no class before c has a say.
-unfoldable pub readFrom : View → ℕ → ℕ → Option Signature
-readFrom v m c = pass v m c (methodLists v c (classes v - c)) .read
-
+-- No class before c reads method m.
 abbrev pub ReadFrom : View → ℕ → ℕ → Type 0
-ReadFrom v m c = signatureOf v m ≡ readFrom v m c
+ReadFrom v m c = readers v m ≡ readersFrom v m c
 
--- Of the classes from c on the first that reads method m; if it fails, what the classes from another one on make of it stands.
+-- Class c is there, and its first method comes after method m; or it is not there.
+abbrev pub PastMethod : View → ℕ → ℕ → Type 0
+PastMethod v m c = c < classes v → m + 1 < numberIn v methodList (classRow v c)
+
+-- Of the classes from c on the first that reads method m, and the class from which on the others are, which begins past the method.
 abbrev pub ReaderIs : View → ℕ → ℕ → ClassReader → Type 0
 ReaderIs v m c (By reader next) =
-    (c < next .0) × (next .0 ≤ classes v) × (readFrom v m c ≡ orElse (readBy v m (reader .0)) (readFrom v m (next .0)))
-ReaderIs v m c Nobody = readFrom v m c ≡ none
+    (c < next .0) × (next .0 ≤ classes v) × (readersFrom v m c ≡ reader .0 ∷ readersFrom v m (next .0)) × PastMethod v m (next .0)
+ReaderIs v m c Nobody = readersFrom v m c ≡ []
 
 -- From the buffer b to b′, r is the reading d of method m's signature: the return type was written at the place, and the parameters' types
 -- follow in that part of the blob heap, as that owner's class reads them; or there is no reading, and nothing before the place changed.

@@ -13,6 +13,7 @@ use rendering::Rendering;
 use rows::columns;
 use sig_leaves::LEVELS;
 use sig_leaves::Owner;
+use steps::Steps;
 ghost use mathlib.Core.Path.{_≡_};
 ghost use mathlib.Core.Bool.{_&&_};
 ghost use mathlib.Core.List.{List};
@@ -26,12 +27,13 @@ ghost use Rattle.buffers.specs.Telling.{ToldIs};
 ghost use Rattle.record.specs.View.{View};
 ghost use Rattle.record.specs.Names.{levels};
 ghost use Rattle.record.specs.Types.{type};
-ghost use Rattle.record.specs.Methods.{readBy, signatureOf, parameterName};
+ghost use Rattle.record.specs.Methods.{readBy, readSteps, signatureOf, methodSteps, parameterName};
 ghost use Rattle.record.specs.Record.{method};
 ghost use Rattle.record.specs.Answers.{_⟫_, item};
 ghost use Rattle.rows.specs.Columns as columns;
 ghost use Rattle.rows.specs.Layout.{Laid, rowsAt, viewIn};
 ghost use Rattle.signatures.specs.Environment.{envIn};
+ghost use Rattle.steps.specs.Counting.{Takes};
 ghost use Rattle.method_signatures.specs.Signatures.{behind, ReadFrom, ReaderIs, ReadingIs};
 ghost use Rattle.method_signatures.specs.Known.{KnowsSignature, readMore};
 
@@ -136,17 +138,20 @@ fn has_method(first: usize, end: usize, m: usize) -> bool
     first <= m && m < end
 }
 
-// A class before which none reads method m. Where MethodList is known to ascend, that is the last whose first method lies at or below m:
-// the last row whose column is at most m + 1.
-fn first_reader(tables: &[u8], layout: &[u32], m: usize) -> ClassNumber
+// A class before which none reads method m. Where MethodList is known to ascend, that is the class that has the method, if it begins at or
+// below m.
+fn first_reader(tables: &[u8], layout: &[u32], taker: ClassNumber, m: usize) -> ClassNumber
     requires { ⌜ Laid (now tables) (now layout) ⌝ }
     requires { ⌜ m < rowsAt (now layout) columns.methodSignature ⌝ }
     ensures { λ r. ⌜ ((strings blob : List ℕ) → ReadFrom (viewIn (now (tables .entry)) (now (layout .entry)) strings blob) m (r .0)) ⌝ }
 {
     if rows::is_marked(layout, columns::METHOD_LIST) {
-        let begun = keys::count_below(tables, layout, columns::METHOD_LIST, m + 2);
-        if 2 <= begun {
-            return classes::class_at(begun - 1);
+        let place = classes::place_of(taker);
+        if place < rows::count_rows(layout, columns::METHOD_LIST) {
+            let column = rows::read_column(tables, layout, columns::METHOD_LIST, place) as usize;
+            if column <= m + 1 {
+                return taker;
+            }
         }
     }
     ClassNumber(0)
@@ -189,6 +194,7 @@ fn read_signature(
     strings: &[u8],
     blob: &[u8],
     layout: &[u32],
+    taker: ClassNumber,
     m: usize,
 ) -> Reading
     requires { ⌜ Laid (now tables) (now layout) ⌝ }
@@ -197,7 +203,7 @@ fn read_signature(
         ⌜ ReadingIs v (now (blob .entry)) m (signatureOf v m) (now (buf .entry)) at (now (buf .exit)) r ⌝ }
 {
     let n = rows::count_rows(layout, columns::METHOD_LIST);
-    let mut class = first_reader(tables, layout, m);
+    let mut class = first_reader(tables, layout, taker, m);
     while classes::place_of(class) < n {
         match next_reader(tables, layout, m, class) {
             ClassReader::By(reader, after) => {
@@ -233,14 +239,21 @@ fn read_signature(
 }
 
 // How many parameters method m has. The text of its return type goes to a buffer of one byte, since only its length is counted.
-pub fn count_params(tables: &[u8], strings: &[u8], blob: &[u8], layout: &[u32], m: usize) -> usize
+pub fn count_params(
+    tables: &[u8],
+    strings: &[u8],
+    blob: &[u8],
+    layout: &[u32],
+    taker: ClassNumber,
+    m: usize,
+) -> usize
     requires { ⌜ Laid (now tables) (now layout) ⌝ }
     requires { ⌜ m < rowsAt (now layout) columns.methodSignature ⌝ }
     ensures { λ r. let v = viewIn (now (tables .entry)) (now (layout .entry)) (now (strings .entry)) (now (blob .entry)) in
         ⌜ r ≡ length (method v m .parameters) ⌝ }
 {
     let mut space = [0u8; 1];
-    match read_signature(&mut space, 0, tables, strings, blob, layout, m) {
+    match read_signature(&mut space, 0, tables, strings, blob, layout, taker, m) {
         Reading::Read { count, .. } => count as usize,
         Reading::Missing => 0,
     }
@@ -331,6 +344,7 @@ pub fn tell_return_type(
     strings: &[u8],
     blob: &[u8],
     layout: &[u32],
+    taker: ClassNumber,
     m: usize,
 ) -> Typed
     requires { ⌜ Laid (now tables) (now layout) ⌝ }
@@ -339,7 +353,7 @@ pub fn tell_return_type(
         ⌜ ToldIs (nameOr5 (method v m .returns)) (now (buf .entry)) at (now (buf .exit)) (r .told) ×
         KnowsSignature v (now (blob .entry)) (r .signature) ⌝ }
 {
-    match read_signature(buf, at, tables, strings, blob, layout, m) {
+    match read_signature(buf, at, tables, strings, blob, layout, taker, m) {
         Reading::Read {
             owner,
             start,
@@ -378,6 +392,7 @@ fn find_signature(
     strings: &[u8],
     blob: &[u8],
     layout: &[u32],
+    taker: ClassNumber,
     m: usize,
     p: u32,
 ) -> Signature
@@ -388,7 +403,7 @@ fn find_signature(
 {
     let mut space = [0u8; 1];
     let read = wide(p);
-    match read_signature(&mut space, 0, tables, strings, blob, layout, m) {
+    match read_signature(&mut space, 0, tables, strings, blob, layout, taker, m) {
         Reading::Read {
             owner,
             start,
@@ -441,6 +456,7 @@ fn signature_at(
     strings: &[u8],
     blob: &[u8],
     layout: &[u32],
+    taker: ClassNumber,
     m: usize,
     p: u32,
     known: Signature,
@@ -456,7 +472,7 @@ fn signature_at(
             return known;
         }
     }
-    find_signature(tables, strings, blob, layout, m, p)
+    find_signature(tables, strings, blob, layout, taker, m, p)
 }
 
 // The same, behind the types of any number of parameters.
@@ -465,6 +481,7 @@ fn signature_of(
     strings: &[u8],
     blob: &[u8],
     layout: &[u32],
+    taker: ClassNumber,
     m: usize,
     known: Signature,
 ) -> Signature
@@ -478,7 +495,7 @@ fn signature_of(
     if known.method == row {
         return known;
     }
-    find_signature(tables, strings, blob, layout, m, 0)
+    find_signature(tables, strings, blob, layout, taker, m, 0)
 }
 
 // One more type has been read.
@@ -556,6 +573,7 @@ pub fn tell_param_type(
     strings: &[u8],
     blob: &[u8],
     layout: &[u32],
+    taker: ClassNumber,
     m: usize,
     p: u32,
     known: Signature,
@@ -567,7 +585,7 @@ pub fn tell_param_type(
         ⌜ ToldIs (item (method v m .parameters) p ⟫ (λ k. nameOr5 (k .type))) (now (buf .entry)) at (now (buf .exit)) (r .told) ×
         KnowsSignature v (now (blob .entry)) (r .signature) ⌝ }
 {
-    let signature = signature_at(tables, strings, blob, layout, m, p, known);
+    let signature = signature_at(tables, strings, blob, layout, taker, m, p, known);
     tell_next_type(buf, at, tables, strings, blob, layout, m, p, signature)
 }
 
@@ -619,6 +637,7 @@ pub fn tell_param_name(
     strings: &[u8],
     blob: &[u8],
     layout: &[u32],
+    taker: ClassNumber,
     m: usize,
     p: u32,
     known: Signature,
@@ -630,7 +649,7 @@ pub fn tell_param_name(
         ⌜ ToldIs (item (method v m .parameters) p ⟫ (λ k. nameOr5 (k .name))) (now (buf .entry)) at (now (buf .exit)) (r .told) ×
         KnowsSignature v (now (blob .entry)) (r .signature) ⌝ }
 {
-    let signature = signature_of(tables, strings, blob, layout, m, known);
+    let signature = signature_of(tables, strings, blob, layout, taker, m, known);
     if signature.count <= wide(p) {
         return Typed {
             told: Told::NoRow,
@@ -640,4 +659,84 @@ pub fn tell_param_name(
     let place = push_param_name(buf, at, tables, strings, layout, m, p);
     let told = buffers::told_by(place);
     Typed { told, signature }
+}
+
+// What a class's reading of method m's whole signature takes of the steps.
+fn pass_by(
+    tables: &[u8],
+    strings: &[u8],
+    blob: &[u8],
+    layout: &[u32],
+    m: usize,
+    class: ClassNumber,
+    steps: u64,
+) -> Steps
+    requires { ⌜ Laid (now tables) (now layout) ⌝ }
+    requires { ⌜ m < rowsAt (now layout) columns.methodSignature ⌝ }
+    ensures { λ r. let v = viewIn (now (tables .entry)) (now (layout .entry)) (now (strings .entry)) (now (blob .entry)) in
+        ⌜ Takes (readSteps v m (class .0)) steps r ⌝ }
+{
+    let index = rows::read_column(tables, layout, columns::METHOD_SIGNATURE, m);
+    match heaps::get_blob(blob, index as usize) {
+        Part::Found { start, len } => {
+            let sig = numbers::cut(blob, start, len);
+            let owner = classes::owner_of(class);
+            let passed = passing::pass_signature(
+                tables,
+                strings,
+                blob,
+                layout,
+                Owner::Of(owner),
+                Owner::Of(2 * (m + 1) + 1),
+                sig,
+                steps,
+            );
+            passing::steps_left(passed)
+        }
+        Part::Absent(_) => Steps::Left(steps),
+    }
+}
+
+// What all readings of method m's signature take of the steps, by every class that reads it. Where MethodList is known to ascend there is
+// one.
+pub fn pass_readings(
+    tables: &[u8],
+    strings: &[u8],
+    blob: &[u8],
+    layout: &[u32],
+    taker: ClassNumber,
+    m: usize,
+    steps: u64,
+) -> Steps
+    requires { ⌜ Laid (now tables) (now layout) ⌝ }
+    requires { ⌜ m < rowsAt (now layout) columns.methodSignature ⌝ }
+    ensures { λ r. let v = viewIn (now (tables .entry)) (now (layout .entry)) (now (strings .entry)) (now (blob .entry)) in
+        ⌜ Takes (methodSteps v m) steps r ⌝ }
+{
+    let n = rows::count_rows(layout, columns::METHOD_LIST);
+    let alone = rows::is_marked(layout, columns::METHOD_LIST);
+    let mut class = first_reader(tables, layout, taker, m);
+    let mut have = steps;
+    while classes::place_of(class) < n {
+        match next_reader(tables, layout, m, class) {
+            ClassReader::By(reader, after) => {
+                match pass_by(tables, strings, blob, layout, m, reader, have) {
+                    Steps::Left(left) => {
+                        if alone {
+                            return Steps::Left(left);
+                        }
+                        have = left;
+                        class = after;
+                    }
+                    Steps::Spent => {
+                        return Steps::Spent;
+                    }
+                }
+            }
+            ClassReader::Nobody => {
+                return Steps::Left(have);
+            }
+        }
+    }
+    Steps::Left(have)
 }

@@ -1,5 +1,6 @@
 -- Full names: of a class, from its name and what stands in front of it, and of a TypeRef row. Assumes nothing.
 use mathlib.Core.Path.{_≡_, refl, sym, ap, _∙_}
+use mathlib.Core.Bool.{Bool}
 use mathlib.Core.List.{List, _∷_, [], _++_, append-assoc}
 use mathlib.Core.Option.{Option, none, some}
 use Prim.Native.Nat.{ℕ, _+_, _-_, _≤_, _<_}
@@ -13,7 +14,7 @@ use Rattle.buffers.specs.Texts.{Text}
 use Rattle.buffers.specs.Writes.{Kept, Wrote, Said, missing, written}
 use Rattle.buffers.proofs.Writing.{wrote-then}
 use Rattle.backwards.proofs.Laws.{wrote-over-kept}
-use Rattle.heaps.specs.Lookups.{before, stringAt, string}
+use Rattle.heaps.specs.Lookups.{before, stringAt, string, isThere}
 use Rattle.buffers.specs.declared.Reason.{Reason}
 use Rattle.heaps.specs.declared.Part.{Part}
 use Rattle.heaps.specs.declared.Part.the-variants.{Found, Absent}
@@ -28,7 +29,7 @@ use Rattle.rows.specs.Columns as columns
 use Rattle.rows.specs.Layout.{optionsIn, headerIn, rowsAt, cell, Laid, viewIn}
 use Rattle.rows.proofs.Laws.{rows-at}
 use Rattle.names.specs.Naming.{nameIn, spaceIn, dotted, frontIn, behindFront}
-use Rattle.names.proofs.Leaves.{cut-part}
+use Rattle.names.proofs.Leaves.{over-there, cut-part}
 
 -- A name and what stands in front of it.
 whole : (space : Option Text) (m : Text) → fullName space (some m) ≡ some (dotted space ++ m)
@@ -40,6 +41,11 @@ bare : (space : Option Text) → fullName space none ≡ none
 unfolding fullName
 bare none = refl
 bare (some s) = refl
+
+-- Whether a full name is there is whether the name is.
+full-there : (space name : Option Text) → isThere (fullName space name) ≡ isThere name
+full-there space none = ap isThere (bare space)
+full-there space (some m) = ap isThere (whole space m)
 
 -- A text that was written.
 said-text : {b b′ : List ℕ} {at at′ : ℕ} {o : Option Text} (m : Text) → o ≡ some m → Wrote b at m b′ at′ → Said b at b′ o (some at′)
@@ -87,6 +93,9 @@ module _ {t l : List ℕ} (laid : Laid t l) (strings blob : List ℕ) where
   pub class-bare : (r : ℕ) → nameIn t l strings r ≡ none → classFullName (viewIn t l strings blob) r ≡ none
   class-bare r e = class-is r ∙ ap (fullName (spaceIn t l strings (rowsAt l columns.nested) r)) e ∙ bare (spaceIn t l strings (rowsAt l columns.nested) r)
 
+  pub class-there : (r : ℕ) {b : Bool} → isThere (nameIn t l strings r) ≡ b → b ≡ isThere (classFullName (viewIn t l strings blob) r)
+  class-there r e = sym (ap isThere (class-is r) ∙ full-there (spaceIn t l strings (rowsAt l columns.nested) r) (nameIn t l strings r) ∙ e)
+
   -- TypeRef row r, from 1.
   kept : rowsAt l columns.refName ≡ keptRows (optionsIn l) (headerIn t l) (length t) typeRef
   kept = rows-at laid columns.refName (omega arith)
@@ -111,6 +120,11 @@ module _ {t l : List ℕ} (laid : Laid t l) (strings blob : List ℕ) where
           ref-is
           ∙ ap (λ (o : Option Text). fullName (string strings (cell t l columns.refNamespace (r - 1))) (over cut o)) (string-none strings (cell t l columns.refName (r - 1)) (sym f ∙ e))
           ∙ bare (string strings (cell t l columns.refNamespace (r - 1)))
+
+      pub ref-there : isThere (string strings (cell t l columns.refName (r - 1))) ≡ isThere (refFullName (viewIn t l strings blob) r)
+      ref-there =
+          let name = string strings (cell t l columns.refName (r - 1)) in
+          sym (ap isThere ref-is ∙ full-there (string strings (cell t l columns.refNamespace (r - 1))) (over cut name) ∙ over-there cut name)
 
       pub said-ref : {p : Part} {start len n at at₁ at₂ : ℕ} {b b₁ b₂ : List ℕ} {text : List ℕ}
           → p ≡ stringAt strings (cell t l columns.refName (r - 1)) → p ≡ Found start len → n ≡ before 0x60 (part strings start len)

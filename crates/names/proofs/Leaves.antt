@@ -1,5 +1,6 @@
 -- The ways through the leaves: a class's strings, its name, and the class that a NestedClass row puts around it. Assumes nothing.
 use mathlib.Core.Path.{_≡_, refl, sym, ap, subst, _∙_}
+use mathlib.Core.Bool.{false}
 use mathlib.Core.List.{List}
 use mathlib.Core.Option.{Option, none, some}
 use mathlib.Core.Logic.{⊎-elim}
@@ -10,7 +11,7 @@ use lib.ListN.{length, take, drop, length-drop}
 use lib.Seq.{length-take-le, take-take}
 use Rattle.numbers.specs.Parts.{part}
 use Rattle.buffers.specs.Texts.{Text}
-use Rattle.heaps.specs.Lookups.{before, stringAt, string}
+use Rattle.heaps.specs.Lookups.{before, stringAt, string, isThere}
 use Rattle.buffers.specs.declared.Reason.{Reason}
 use Rattle.heaps.specs.declared.Part.{Part}
 use Rattle.heaps.specs.declared.Part.the-variants.{Found, Absent}
@@ -92,6 +93,25 @@ module _ (t l strings : List ℕ) (r : ℕ) where
 
   pub own-missing : {p : Name} → Shows strings (classString t l strings columns.typeName r) p → p ≡ Missing → Shows strings (nameIn t l strings r) Missing
   own-missing s e = shows-none (own-name ∙ ap (over cut) (sym (s .is) ∙ ap (nameText strings) e))
+
+-- Whether it is there is whether the string is.
+pub over-there : {A B : Type 0} (f : A → B) (o : Option A) → isThere (over f o) ≡ isThere o
+over-there f none = refl
+over-there f (some a) = refl
+
+module _ (t l strings : List ℕ) (r : ℕ) where
+  own-there : {o : Option Text} → classString t l strings columns.typeName r ≡ o → isThere (nameIn t l strings r) ≡ isThere o
+  own-there {o} e = ap isThere (own-name t l strings r ∙ ap (over cut) e) ∙ over-there cut o
+
+  pub own-low : r < 2 → isThere (nameIn t l strings r) ≡ false
+  own-low h = own-there (sym (class-low t l strings columns.typeName r h .is))
+
+  module _ (laid : Laid t l) (h : 2 ≤ r) where
+    pub own-past : rowsAt l columns.typeName < r → isThere (nameIn t l strings r) ≡ false
+    own-past p = own-there (sym (class-past t l strings columns.typeName r laid (omega arith) refl h p .is))
+
+    pub own-found : r ≤ rowsAt l columns.typeName → isThere (nameIn t l strings r) ≡ isThere (string strings (cell t l columns.typeName (r - 1)))
+    own-found p = own-there (there t l strings columns.typeName r laid (omega arith) refl h p)
 
 -- The part of a string up to its first back-quote.
 pub cut-part : (s : List ℕ) (start len n : ℕ) → start + len ≤ length s → n ≡ before 0x60 (part s start len)

@@ -12,7 +12,7 @@ ghost use lib.ListN.{length};
 ghost use Rattle.numbers.specs.Parts.{part};
 ghost use Rattle.buffers.specs.Writes.{Wrote, Said, placeSays};
 ghost use Rattle.backwards.specs.Backwards.{Placed};
-ghost use Rattle.heaps.specs.Lookups.{before, string};
+ghost use Rattle.heaps.specs.Lookups.{before, string, isThere};
 ghost use Rattle.layouts.specs.Kinds.{typeDef};
 ghost use Rattle.record.specs.Names.{classFullName, refFullName};
 ghost use Rattle.layouts.specs.Read.{readColumn};
@@ -333,6 +333,23 @@ pub fn push_class_name(
     }
 }
 
+// Whether the class at a TypeDef row has a full name: what stands in front of its own name does not matter.
+pub fn has_class_name(tables: &[u8], strings: &[u8], layout: &[u32], row: TypeDefRow) -> bool
+    requires { ⌜ Laid (now tables) (now layout) ⌝ }
+    ensures { λ r.
+        ⌜ ((blob : List ℕ)
+        → r ≡ isThere (classFullName (viewIn (now (tables .entry)) (now (layout .entry)) (now (strings .entry)) blob) (row .0))) ⌝ }
+{
+    let r = row.0 as usize;
+    if r < 2 {
+        return false;
+    }
+    if rows::count_rows(layout, rows::columns::TYPE_NAME) < r {
+        return false;
+    }
+    rows::has_string(tables, strings, layout, rows::columns::TYPE_NAME, r - 1)
+}
+
 // A place in a buffer of that length, or one past its end.
 fn place_within(len: usize, at: usize) -> usize
     requires { ⌜ len < 9223372036854775808 ⌝ }
@@ -397,4 +414,21 @@ pub fn push_ref_name(
         }
         Part::Absent(_) => Place::Missing,
     }
+}
+
+// Whether TypeRef row r, from 1, has a full name.
+pub fn has_ref_name(tables: &[u8], strings: &[u8], layout: &[u32], row: u32) -> bool
+    requires { ⌜ Laid (now tables) (now layout) ⌝ }
+    ensures { λ r.
+        ⌜ ((blob : List ℕ)
+        → r ≡ isThere (refFullName (viewIn (now (tables .entry)) (now (layout .entry)) (now (strings .entry)) blob) row)) ⌝ }
+{
+    let r = row as usize;
+    if r == 0 {
+        return false;
+    }
+    if rows::count_rows(layout, rows::columns::REF_NAME) < r {
+        return false;
+    }
+    rows::has_string(tables, strings, layout, rows::columns::REF_NAME, r - 1)
 }

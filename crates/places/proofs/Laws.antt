@@ -112,6 +112,7 @@ module _ (v : View) (c : ℕ) {first end : ℕ} (is : theClass v c ≡ value (cl
         ∙ ap orNoRow (tabulate-item (method v) (leftAfter v c) (leftAfter v (c + 1) - leftAfter v c) m (omega (arith, range .begins, range .ends)))
         ∙ ap (λ j. value (method v j)) at)
         (omega (arith, range .inside))
+        (sym at)
 
     pub method-past : end ≤ first + m → MethodRowIs v c m NoMethod
     unfolding class
@@ -125,7 +126,10 @@ method-none v c m e = no-method (ap (λ a. a ⟫ (λ k. item (k .methods) m)) e)
 -- What a caller that has matched the answer knows.
 module _ {v : View} {c m : ℕ} where
   method-in : {i : ℕ} → MethodRowIs v c m (MethodAt i) → (theMethod v c m ≡ value (method v i)) × (i < rowsIn v methodDef)
-  method-in (at-method e h) = (e, h)
+  method-in (at-method e h f) = (e, h)
+
+  method-of-all : {i : ℕ} → MethodRowIs v c m (MethodAt i) → i ≡ leftAfter v c + m
+  method-of-all (at-method e h f) = f
 
   method-out : MethodRowIs v c m NoMethod → theMethod v c m ≡ refusedBy NoSuchRow
   method-out (no-method e) = e
@@ -133,6 +137,10 @@ module _ {v : View} {c m : ℕ} where
   module _ {r : MethodRow} (h : MethodRowIs v c m r) where
     pub method-found : {i : ℕ} → r ≡ MethodAt i → (theMethod v c m ≡ value (method v i)) × (i < rowsIn v methodDef)
     method-found e = method-in (subst (MethodRowIs v c m) e h)
+
+    -- Its place among all methods.
+    pub method-place : {i : ℕ} → r ≡ MethodAt i → i ≡ leftAfter v c + m
+    method-place e = method-of-all (subst (MethodRowIs v c m) e h)
 
     pub method-missed : r ≡ NoMethod → theMethod v c m ≡ refusedBy NoSuchRow
     method-missed e = method-out (subst (MethodRowIs v c m) e h)

@@ -15,8 +15,8 @@ use Rattle.record.specs.Columns.{column}
 use Rattle.record.specs.Namespaces.{cut, fullName, nameOf, ownNamespace}
 use Rattle.record.specs.View.{otherRow, viewOf}
 use Rattle.record.specs.Types.{look, names, simple, typeFullName, counted, methodStart, arguments, shown, parameters, around, classType, generic, shape, array, instance, fnPtr, modified, form, within, type}
-use Rattle.record.specs.Names.{classes, classFullName, classNamed, refFullName, specBlob, typeNameIn, baseTypes}
-use Rattle.record.specs.Methods.{takes, leftOver, leftAfter, tries, signature, readBy, handle, pass, signatureOf, parameterName}
+use Rattle.record.specs.Names.{classes, classFullName, classNamed, refFullName, specBlob, typeIn, typeNameIn, baseIndices, baseTypes}
+use Rattle.record.specs.Methods.{takes, leftOver, leftAfter, tries, signature, signatureBlob, reading, readBy, endBefore, reads, readersAmong, readersFrom, signatureOf, parameterName}
 use Rattle.record.specs.Record.{method, class, classRecord}
 use Rattle.buffers.specs.Replies.{nameReply, nameBuffer}
 use Rattle.record.specs.Cases.{sameℤ, is, sameAnswer, nowhere, unsigned, signed, rendered, all, cases, TwelveCases, moreCases, MoreCases, Limits, Buffers, wholeTables, wholeStrings, WholeCase, threeTables, threeStrings, threeBlob, ThreeClasses, richTables, richStrings, richBlob, RichCase, cutStrings, cutTypes, interfacesEnding, CutTables, nesting, nestingStrings, NestedNames}
@@ -38,21 +38,21 @@ unfolding nameReply nameBuffer
 buffers = record { fits = (refl, refl); lacks = (refl, refl); empty = (refl, refl) }
 
 pub whole : WholeCase
-unfolding wholeTables wholeStrings leAt bitAt onesBelow rowCount overLimit opened tables reaches indexSizes indexSize heapSize hasCustomAttribute sumOf rowSize startOf isTable passes stopFrom stopKind wholeRows ifReached walked tabulate before stringAt bytesAt blobAt name string blob column walkBy extentBy onlyEntire keptBy cut fullName nameOf ownNamespace otherRow viewOf classes classFullName classNamed refFullName specBlob typeNameIn baseTypes takes leftOver leftAfter tries signature readBy handle pass signatureOf parameterName method class classRecord packed bits7 bits14 bits29 uint unrotated sint times sep digits decimal signedText dim dims look names simple typeFullName counted methodStart arguments shown parameters around classType generic shape array instance fnPtr modified form within type
+unfolding wholeTables wholeStrings leAt bitAt onesBelow rowCount overLimit opened tables reaches indexSizes indexSize heapSize hasCustomAttribute sumOf rowSize startOf isTable passes stopFrom stopKind wholeRows ifReached walked tabulate before stringAt bytesAt blobAt name string blob column walkBy extentBy onlyEntire keptBy cut fullName nameOf ownNamespace otherRow viewOf classes classFullName classNamed refFullName specBlob typeIn typeNameIn baseIndices baseTypes takes leftOver leftAfter tries signature signatureBlob reading readBy endBefore reads readersAmong readersFrom signatureOf parameterName method class classRecord packed bits7 bits14 bits29 uint unrotated sint times sep digits decimal signedText dim dims look names simple typeFullName counted methodStart arguments shown parameters around classType generic shape array instance fnPtr modified form within type
 whole = record { stop = refl; classes = refl }
 
 pub three : ThreeClasses
-unfolding threeTables threeStrings threeBlob leAt bitAt onesBelow rowCount overLimit opened tables reaches indexSizes indexSize heapSize hasCustomAttribute sumOf rowSize startOf isTable passes stopFrom stopKind wholeRows ifReached walked tabulate before stringAt bytesAt blobAt name string blob column walkBy extentBy onlyEntire keptBy cut fullName nameOf ownNamespace otherRow viewOf classes classFullName classNamed refFullName specBlob typeNameIn baseTypes takes leftOver leftAfter tries signature readBy handle pass signatureOf parameterName method class classRecord packed bits7 bits14 bits29 uint unrotated sint times sep digits decimal signedText dim dims look names simple typeFullName counted methodStart arguments shown parameters around classType generic shape array instance fnPtr modified form within type
+unfolding threeTables threeStrings threeBlob leAt bitAt onesBelow rowCount overLimit opened tables reaches indexSizes indexSize heapSize hasCustomAttribute sumOf rowSize startOf isTable passes stopFrom stopKind wholeRows ifReached walked tabulate before stringAt bytesAt blobAt name string blob column walkBy extentBy onlyEntire keptBy cut fullName nameOf ownNamespace otherRow viewOf classes classFullName classNamed refFullName specBlob typeIn typeNameIn baseIndices baseTypes takes leftOver leftAfter tries signature signatureBlob reading readBy endBefore reads readersAmong readersFrom signatureOf parameterName method class classRecord packed bits7 bits14 bits29 uint unrotated sint times sep digits decimal signedText dim dims look names simple typeFullName counted methodStart arguments shown parameters around classType generic shape array instance fnPtr modified form within type
 three = refl
 
 pub rich : RichCase
-unfolding richTables richStrings richBlob leAt bitAt onesBelow rowCount overLimit opened tables reaches indexSizes indexSize heapSize hasCustomAttribute sumOf rowSize startOf isTable passes stopFrom stopKind wholeRows ifReached walked tabulate before stringAt bytesAt blobAt name string blob column walkBy extentBy onlyEntire keptBy cut fullName nameOf ownNamespace otherRow viewOf classes classFullName classNamed refFullName specBlob typeNameIn baseTypes takes leftOver leftAfter tries signature readBy handle pass signatureOf parameterName method class classRecord packed bits7 bits14 bits29 uint unrotated sint times sep digits decimal signedText dim dims look names simple typeFullName counted methodStart arguments shown parameters around classType generic shape array instance fnPtr modified form within type
+unfolding richTables richStrings richBlob leAt bitAt onesBelow rowCount overLimit opened tables reaches indexSizes indexSize heapSize hasCustomAttribute sumOf rowSize startOf isTable passes stopFrom stopKind wholeRows ifReached walked tabulate before stringAt bytesAt blobAt name string blob column walkBy extentBy onlyEntire keptBy cut fullName nameOf ownNamespace otherRow viewOf classes classFullName classNamed refFullName specBlob typeIn typeNameIn baseIndices baseTypes takes leftOver leftAfter tries signature signatureBlob reading readBy endBefore reads readersAmong readersFrom signatureOf parameterName method class classRecord packed bits7 bits14 bits29 uint unrotated sint times sep digits decimal signedText dim dims look names simple typeFullName counted methodStart arguments shown parameters around classType generic shape array instance fnPtr modified form within type
 rich = refl
 
 pub cut-tables : CutTables
-unfolding cutStrings cutTypes interfacesEnding leAt bitAt onesBelow rowCount overLimit opened tables reaches indexSizes indexSize heapSize hasCustomAttribute sumOf rowSize startOf isTable passes stopFrom stopKind wholeRows ifReached walked tabulate before stringAt bytesAt blobAt name string blob column walkBy extentBy onlyEntire keptBy cut fullName nameOf ownNamespace otherRow viewOf classes classFullName classNamed refFullName specBlob typeNameIn baseTypes takes leftOver leftAfter tries signature readBy handle pass signatureOf parameterName method class classRecord packed bits7 bits14 bits29 uint unrotated sint times sep digits decimal signedText dim dims look names simple typeFullName counted methodStart arguments shown parameters around classType generic shape array instance fnPtr modified form within type
+unfolding cutStrings cutTypes interfacesEnding leAt bitAt onesBelow rowCount overLimit opened tables reaches indexSizes indexSize heapSize hasCustomAttribute sumOf rowSize startOf isTable passes stopFrom stopKind wholeRows ifReached walked tabulate before stringAt bytesAt blobAt name string blob column walkBy extentBy onlyEntire keptBy cut fullName nameOf ownNamespace otherRow viewOf classes classFullName classNamed refFullName specBlob typeIn typeNameIn baseIndices baseTypes takes leftOver leftAfter tries signature signatureBlob reading readBy endBefore reads readersAmong readersFrom signatureOf parameterName method class classRecord packed bits7 bits14 bits29 uint unrotated sint times sep digits decimal signedText dim dims look names simple typeFullName counted methodStart arguments shown parameters around classType generic shape array instance fnPtr modified form within type
 cut-tables = record { types = refl; entire = refl; cut = refl }
 
 pub nested-names : NestedNames
-unfolding nesting nestingStrings leAt bitAt onesBelow rowCount overLimit opened tables reaches indexSizes indexSize heapSize hasCustomAttribute sumOf rowSize startOf isTable passes stopFrom stopKind wholeRows ifReached walked tabulate before stringAt bytesAt blobAt name string blob column walkBy extentBy onlyEntire keptBy cut fullName nameOf ownNamespace otherRow viewOf classes classFullName classNamed refFullName specBlob typeNameIn baseTypes takes leftOver leftAfter tries signature readBy handle pass signatureOf parameterName method class classRecord packed bits7 bits14 bits29 uint unrotated sint times sep digits decimal signedText dim dims look names simple typeFullName counted methodStart arguments shown parameters around classType generic shape array instance fnPtr modified form within type
+unfolding nesting nestingStrings leAt bitAt onesBelow rowCount overLimit opened tables reaches indexSizes indexSize heapSize hasCustomAttribute sumOf rowSize startOf isTable passes stopFrom stopKind wholeRows ifReached walked tabulate before stringAt bytesAt blobAt name string blob column walkBy extentBy onlyEntire keptBy cut fullName nameOf ownNamespace otherRow viewOf classes classFullName classNamed refFullName specBlob typeIn typeNameIn baseIndices baseTypes takes leftOver leftAfter tries signature signatureBlob reading readBy endBefore reads readersAmong readersFrom signatureOf parameterName method class classRecord packed bits7 bits14 bits29 uint unrotated sint times sep digits decimal signedText dim dims look names simple typeFullName counted methodStart arguments shown parameters around classType generic shape array instance fnPtr modified form within type
 nested-names = record { outward = refl; inward = refl; cycle = refl; self = refl; idle = refl; gone = refl }

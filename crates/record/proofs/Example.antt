@@ -20,7 +20,7 @@ use Rattle.record.specs.Rows.{rowBytes}
 use Rattle.record.specs.Namespaces.{cut, fullName, nameOf, ownNamespace}
 use Rattle.record.specs.View.{place, otherRow, viewOf}
 use Rattle.record.specs.Types.{look, typeFullName}
-use Rattle.record.specs.Names.{classes, classFullName, classNamed, typeNameIn, baseTypes}
+use Rattle.record.specs.Names.{classes, classFullName, classNamed, typeIn, typeNameIn, baseIndices, baseTypes}
 use Rattle.record.specs.Methods.{takes, leftOver, leftAfter}
 use Rattle.record.specs.Record.{method, class, classRecord}
 use Rattle.record.specs.Rearrangement.{Pairing, Moved, InRow, SameOwner, SameClass, Tied, Whole, Rearranged, Swapped}
@@ -206,5 +206,5 @@ differs : moved ≢ old
 differs e = let z : _≡_ {A = ℕ} 5 2 = ap (λ l. getD l 110 0) e in omega arith
 
 pub example : Example
-unfolding leAt bitAt onesBelow rowCount overLimit opened tables reaches indexSizes indexSize heapSize hasCustomAttribute sumOf rowSize startOf isTable passes stopFrom stopKind wholeRows ifReached walked tabulate walkBy extentBy before stringAt bytesAt blobAt name string column onlyEntire keptBy cut fullName nameOf ownNamespace otherRow viewOf look typeFullName classes classFullName classNamed typeNameIn baseTypes takes leftOver leftAfter method class classRecord
+unfolding leAt bitAt onesBelow rowCount overLimit opened tables reaches indexSizes indexSize heapSize hasCustomAttribute sumOf rowSize startOf isTable passes stopFrom stopKind wholeRows ifReached walked tabulate walkBy extentBy before stringAt bytesAt blobAt name string column onlyEntire keptBy cut fullName nameOf ownNamespace otherRow viewOf look typeFullName classes classFullName classNamed typeIn typeNameIn baseIndices baseTypes takes leftOver leftAfter method class classRecord
 example = record { allowed = allowed; differs = differs; exchanged = exchanged; classes = refl }

@@ -15,3 +15,4 @@ pub mod Cases
 pub mod Example
 pub mod Look
 pub mod Reasons
+pub mod Allowance

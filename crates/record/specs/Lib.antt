@@ -11,6 +11,7 @@ pub mod Names
 pub mod Methods
 pub mod Record
 pub mod Answers
+pub mod Allowance
 pub mod Cases
 pub mod Rearrangement
 pub mod Demand

@@ -1,13 +1,13 @@
 -- Which methods a class has, and the types and names of their parameters, by the view.
-use mathlib.Core.Bool.{cond, _&&_}
-use mathlib.Core.List.{List, [], _∷_, _++_}
+use mathlib.Core.Bool.{Bool, false, cond, _&&_}
+use mathlib.Core.List.{List, [], _∷_, _++_, map}
 use mathlib.Core.Option.{Option, none, some}
 use Prim.Native.Nat.{ℕ, zero, suc, _+_, _-_}
 use lib.Dec.{eqb, leb, ltb}
 use Rattle.numbers.specs.Lists.{tabulate}
-use Rattle.record.specs.Missing.{andThen, orElse, orDefault}
-use Rattle.numbers.specs.Reading.{Reader, give, _>>=_}
-use Rattle.record.specs.Readings.{attempt}
+use Rattle.record.specs.Missing.{andThen, orDefault, firstThere}
+use Rattle.numbers.specs.Reading.{Res, Reader, give, _>>=_}
+use Rattle.record.specs.Readings.{attempt, inBlob, total}
 use Rattle.buffers.specs.Texts.{Text, q, decimal}
 use Rattle.heaps.specs.Lookups.{blob}
 use Rattle.layouts.specs.Kinds.{methodDef, param}
@@ -59,33 +59,54 @@ signature e = do
   ts ← tries n (type e levels)
   give (record { returns = t; parameters = ts })
 
--- Method m's signature as class c reads it; missing where there is no blob or the reading fails.
+-- The blob of method m's signature.
+unfoldable pub signatureBlob : View → ℕ → Option (List ℕ)
+signatureBlob v m = andThen (methodRow v m) (λ row. blob (v .blob) (methodSignature (sizesOf v) row))
+
+-- Class c's reading of the whole of it; nothing is read where there is no blob.
+unfoldable pub reading : View → ℕ → ℕ → Res Signature
+reading v m c = inBlob (signature (env v (classGenerics v c) (methodGenerics v m))) (signatureBlob v m)
+
+-- Method m's signature as class c reads it: missing where the reading fails.
 unfoldable pub readBy : View → ℕ → ℕ → Option Signature
-readBy v m c =
-    andThen (methodRow v m) (λ row. andThen (blob (v .blob) (methodSignature (sizesOf v) row)) (λ bytes.
-    signature (env v (classGenerics v c) (methodGenerics v m)) bytes 0 .got))
+readBy v m c = reading v m c .got
 
--- The pass over the classes, last to first: the first method of the class handled last, and what the method's signature is so far.
-pub record Pass : Type 0 where
-  pub end : ℕ
-  pub read : Option Signature
+-- How many type bytes class c reads there, also where the reading fails.
+unfoldable pub readSteps : View → ℕ → ℕ → ℕ
+readSteps v m c = reading v m c .steps
 
--- A class with this column is handled. It reads the methods from its first up to the first of the class handled before it,
--- and a reading that succeeds replaces an earlier one. Column 0 is skipped.
-unfoldable pub handle : ℕ → ℕ → Option Signature → Pass → Pass
-handle m col reading p =
-    cond (eqb col 0) p
-    (record { end = col - 1; read = cond (leb (col - 1) m && ltb m (p .end)) (orElse reading (p .read)) (p .read) })
+-- Where the methods end that a class reads, by the columns of the classes behind it: at the first method of the first of them whose column
+-- is not 0, or with the last method.
+unfoldable pub endBefore : ℕ → List ℕ → ℕ
+endBefore all [] = all
+endBefore all (col ∷ later) = cond (eqb col 0) (endBefore all later) (col - 1)
 
--- The pass over the classes from c on, by their columns; at its start all methods are to be read.
-unfoldable pub pass : View → ℕ → ℕ → List ℕ → Pass
-pass v m c [] = record { end = rowsIn v methodDef; read = none }
-pass v m c (col ∷ later) = handle m col (readBy v m c) (pass v m (c + 1) later)
+-- Whether a class with this column reads method m, where the methods that it reads end there: it reads from its first method on. Column 0
+-- reads none.
+unfoldable pub reads : ℕ → ℕ → ℕ → Bool
+reads m col end = cond (eqb col 0) false (leb (col - 1) m && ltb m end)
 
--- The signature of method m. Where the first method of the class handled before lies past the end, the Rust indexes out of range and
--- panics; here the methods that are read stop at the last one, since no class has a method past it.
+-- The classes from c on that read method m, by their columns.
+unfoldable pub readersAmong : ℕ → ℕ → ℕ → List ℕ → List ℕ
+readersAmong all m c [] = []
+readersAmong all m c (col ∷ later) =
+    cond (reads m col (endBefore all later)) (c ∷ readersAmong all m (c + 1) later) (readersAmong all m (c + 1) later)
+
+unfoldable pub readersFrom : View → ℕ → ℕ → List ℕ
+readersFrom v m c = readersAmong (rowsIn v methodDef) m c (methodLists v c (classes v - c))
+
+abbrev pub readers : View → ℕ → List ℕ
+readers v m = readersFrom v m 0
+
+-- The signature of method m. The Rust goes over the classes from the last to the first, and a reading that succeeds replaces an earlier
+-- one: so that of the lowest class that succeeds stands. Where the first method of the class handled before lies past the end, the Rust
+-- indexes out of range and panics; here the methods that are read stop at the last one, since no class has a method past it.
 unfoldable pub signatureOf : View → ℕ → Option Signature
-signatureOf v m = pass v m 0 (methodLists v 0 (classes v)) .read
+signatureOf v m = firstThere (map (readBy v m) (readers v m))
+
+-- How many type bytes are read in all readings of it, those that fail or are replaced included (2026-06).
+unfoldable pub methodSteps : View → ℕ → ℕ
+methodSteps v m = total (map (readSteps v m) (readers v m))
 
 -- ---- Parameters
 

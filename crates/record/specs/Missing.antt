@@ -27,3 +27,8 @@ abbrev pub present : {A : Type 0} → List (Option A) → List A
 present [] = []
 present (none ∷ l) = present l
 present (some a ∷ l) = a ∷ present l
+
+-- The first of them.
+abbrev pub firstThere : {A : Type 0} → List (Option A) → Option A
+firstThere [] = none
+firstThere (o ∷ l) = orElse o (firstThere l)

@@ -16,6 +16,8 @@ use Rattle.record.specs.Columns.{refName, refNamespace, typeName, extend
 use Rattle.tables.specs.Extents.{keptBy}
 use Rattle.record.specs.Namespaces.{cut, fullName, nameOf}
 use Rattle.record.specs.View.{View}
+use Rattle.numbers.specs.Reading.{Res}
+use Rattle.record.specs.Readings.{total}
 use Rattle.record.specs.Types.{Env, typeFullName, type}
 
 -- The index sizes, and how many rows of a table are kept.
@@ -109,10 +111,26 @@ env v ofClass ofMethod =
 abbrev pub levels : ℕ
 levels = 17
 
--- The name behind a TypeDefOrRef index that stands in a row of class c (`get_type_fullname` as `finalize` calls it).
-unfoldable pub typeNameIn : View → ℕ → ℕ → Option Text
-typeNameIn v c i = let e = env v (classGenerics v c) [] in typeFullName e (type e levels) i .got
+-- The reading of the type behind a TypeDefOrRef index that stands in a row of class c (`get_type_fullname` as `finalize` calls it): its
+-- name, and how many type bytes are read for it.
+unfoldable pub typeIn : View → ℕ → ℕ → Res Text
+typeIn v c i = let e = env v (classGenerics v c) [] in typeFullName e (type e levels) i
 
--- The base types of class c (`finalize`): the extended type first, then the interfaces in order; those without a name are dropped.
+unfoldable pub typeNameIn : View → ℕ → ℕ → Option Text
+typeNameIn v c i = typeIn v c i .got
+
+unfoldable pub typeStepsIn : View → ℕ → ℕ → ℕ
+typeStepsIn v c i = typeIn v c i .steps
+
+-- What class c is said to be made of (`finalize`): its Extends column first (II.22.37), then the Interface columns of its rows of
+-- InterfaceImpl (II.22.23), in order.
+unfoldable pub baseIndices : View → ℕ → List ℕ
+baseIndices v c = numberIn v extends (classRow v c) ∷ v .interfaces (classIndex c)
+
+-- The base types of class c: the types behind these; those without a name are dropped.
 unfoldable pub baseTypes : View → ℕ → List Text
-baseTypes v c = present (map (typeNameIn v c) (numberIn v extends (classRow v c) ∷ v .interfaces (classIndex c)))
+baseTypes v c = present (map (typeNameIn v c) (baseIndices v c))
+
+-- How many type bytes are read for all of them, those without a name included (2026-06).
+unfoldable pub baseSteps : View → ℕ → ℕ
+baseSteps v c = total (map (typeStepsIn v c) (baseIndices v c))

@@ -1,11 +1,11 @@
 -- More readings of bytes, beside those of `numbers`: what signatures are read with.
 use mathlib.Core.Bool.{cond}
 use mathlib.Core.List.{List, [], _∷_}
-use mathlib.Core.Option.{Option, some}
+use mathlib.Core.Option.{Option, none, some}
 use Prim.Native.Nat.{ℕ, zero, suc, _+_}
 use lib.Dec.{ltb}
 use lib.ListN.{length, getD}
-use Rattle.numbers.specs.Reading.{Reader, give, noneAt, _>>=_}
+use Rattle.numbers.specs.Reading.{Res, Reader, give, noneAt, _>>=_}
 
 -- Nothing is read, and the value may be there or not.
 abbrev pub known : {A : Type 0} → Option A → Reader A
@@ -25,3 +25,13 @@ attempt p s at = let r = p s at in record { got = some (r .got); next = r .next;
 unfoldable pub times : {A : Type 0} → ℕ → Reader A → Reader (List A)
 times zero p = give []
 times (suc n) p = p >>= (λ a. times n p >>= (λ xs. give (a ∷ xs)))
+
+-- A reading from the start of a blob that is there or not.
+abbrev pub inBlob : {A : Type 0} → Reader A → Option (List ℕ) → Res A
+inBlob p none = noneAt 0
+inBlob p (some b) = p b 0
+
+-- The sum of numbers.
+abbrev pub total : List ℕ → ℕ
+total [] = 0
+total (n ∷ l) = n + total l

@@ -7,7 +7,7 @@ use Prim.Native.Nat.{ℕ, zero, suc, _+_, _-_, _/_, _%_}
 use lib.Dec.{ltb, eqb}
 use lib.ListN.{length}
 use Rattle.numbers.specs.Reading.{Res, Reader, noneAt, fail, give, _>>=_, byte}
-use Rattle.record.specs.Readings.{known, typeByte, attempt, times}
+use Rattle.record.specs.Readings.{known, typeByte, attempt, times, inBlob}
 use Rattle.numbers.specs.Compressed.{uint, sint}
 use Rattle.buffers.specs.Texts.{Text, q}
 use Rattle.record.specs.Dims.{sep, dims}
@@ -47,11 +47,6 @@ simple b = look b (each-some names) none
 -- A result from elsewhere: nothing is read here.
 abbrev pub aside : {A : Type 0} → Res A → Reader A
 aside r s at = record { got = r .got; next = at; steps = r .steps }
-
--- The type at the start of a blob that is there or not.
-abbrev pub inBlob : Reader Text → Option (List ℕ) → Res Text
-inBlob type none = noneAt 0
-inBlob type (some b) = type b 0
 
 -- The name behind a TypeDefOrRef index (`get_type_fullname`), as a signature has it (II.23.2.8) or a column (II.24.2.6): the two low bits
 -- say which table, the rest is the row. A TypeSpec row has a signature (II.23.2.14), which `type` reads.

@@ -11,7 +11,7 @@ ghost use mathlib.Core.Path.{_≡_};
 ghost use Prim.Native.Nat.{_+_, _<_, _≤_};
 ghost use lib.ListN.{length};
 ghost use Rattle.buffers.specs.Telling.{ToldIs};
-ghost use Rattle.heaps.specs.Lookups.{stringAt, name, reasonOf, nameOrWhy};
+ghost use Rattle.heaps.specs.Lookups.{stringAt, name, string, isThere, reasonOf, nameOrWhy};
 ghost use Rattle.rows.specs.Columns as columns;
 ghost use Rattle.rows.specs.Layout.{Laid, rowsAt, isMarked, heldStart, heldLength, heldAt, cell};
 
@@ -68,6 +68,16 @@ pub fn read_string(tables: &[u8], strings: &[u8], layout: &[u32], column: usize,
 {
     let index = read_column(tables, layout, column, i);
     heaps::get_string(strings, index as usize)
+}
+
+// Whether it is there.
+pub fn has_string(tables: &[u8], strings: &[u8], layout: &[u32], column: usize, i: usize) -> bool
+    requires { ⌜ Laid (now tables) (now layout) ⌝ }
+    requires { ⌜ (column < columns.count) × (i < rowsAt (now layout) column) ⌝ }
+    ensures { λ r. ⌜ r ≡ isThere (string (now (strings .entry)) (cell (now (tables .entry)) (now (layout .entry)) column i)) ⌝ }
+{
+    let index = read_column(tables, layout, column, i);
+    heaps::has_string(strings, index as usize)
 }
 
 // What it comes to at a place, as the answer for a name.

@@ -1,6 +1,7 @@
 -- Names of generic parameters: a string that was looked up and appended, the parameter of an owner, and the one that a signature says
 -- by its place. Each starts from an answer of the code that was matched. Assumes nothing.
-use mathlib.Core.Path.{_≡_, sym, ap, subst⁻¹, _∙_}
+use mathlib.Core.Path.{_≡_, refl, sym, ap, subst⁻¹, _∙_}
+use mathlib.Core.Bool.{Bool, false}
 use mathlib.Core.List.{List}
 use mathlib.Core.Option.{Option, none, some}
 use Prim.Native.Nat.{ℕ}
@@ -16,7 +17,7 @@ use Rattle.buffers.specs.Writes.{Kept, Wrote, Said, missing, written, placeSays
 use Rattle.buffers.specs.declared.Place.{Place}
 use Rattle.buffers.specs.declared.Place.the-variants.{Next, Missing}
 use Rattle.buffers.proofs.Writing.{said-some, said-none, said-missing}
-use Rattle.heaps.specs.Lookups.{stringAt, string}
+use Rattle.heaps.specs.Lookups.{stringAt, string, isThere}
 use Rattle.buffers.specs.declared.Reason.{Reason}
 use Rattle.heaps.specs.declared.Part.{Part}
 use Rattle.heaps.specs.declared.Part.the-variants.{Found, Absent}
@@ -60,6 +61,16 @@ module _ {t l : List ℕ} (laid : Laid t l) (strings blob : List ℕ) (k i : ℕ
   pub said-unowned : r ≡ NoRow → Kept b at b′ → Said b at b′ (nameAt (viewIn t l strings blob .generics k) i) none
   said-unowned e kept = rw (generics-missed laid strings blob k i found e) (missing kept)
 
+module _ {t l : List ℕ} (laid : Laid t l) (strings blob : List ℕ) (k i : ℕ) {r : Row} (found : FoundIs (cell t l columns.owner) k (rowsAt l columns.owner) i r)
+  where
+    pub owned-there : {row : ℕ} {b : Bool} → r ≡ At row → b ≡ isThere (string strings (cell t l columns.genericName row))
+        → b ≡ isThere (nameAt (viewIn t l strings blob .generics k) i)
+    unfolding string
+    owned-there e w = rw (generics-found laid strings blob k i _ found e .1) w
+
+    pub unowned-there : r ≡ NoRow → false ≡ isThere (nameAt (viewIn t l strings blob .generics k) i)
+    unowned-there e = rw (generics-missed laid strings blob k i found e) refl
+
 -- Parameter i of an owner that may be nobody.
 module _ (v : View) (i : ℕ) {owner : Owner} {b b′ : List ℕ} {at : ℕ} where
   pub said-generic : {k : ℕ} {o : Option ℕ} → owner ≡ Of k → Said b at b′ (nameAt (v .generics k) i) o → Said b at b′ (nameAt (genericsOf v owner) i) o
@@ -67,6 +78,13 @@ module _ (v : View) (i : ℕ) {owner : Owner} {b b′ : List ℕ} {at : ℕ} whe
 
   pub said-nobody : owner ≡ Nobody → Kept b at b′ → Said b at b′ (nameAt (genericsOf v owner) i) none
   said-nobody e kept = subst⁻¹ (λ (x : Owner). Said b at b′ (nameAt (genericsOf v x) i) none) e (missing kept)
+
+module _ (v : View) (i : ℕ) {owner : Owner} where
+  pub generic-there : {k : ℕ} {r : Bool} → owner ≡ Of k → r ≡ isThere (nameAt (v .generics k) i) → r ≡ isThere (nameAt (genericsOf v owner) i)
+  generic-there {r = r} e w = subst⁻¹ (λ (x : Owner). r ≡ isThere (nameAt (genericsOf v x) i)) e w
+
+  pub nobody-there : owner ≡ Nobody → false ≡ isThere (nameAt (genericsOf v owner) i)
+  nobody-there e = subst⁻¹ (λ (x : Owner). false ≡ isThere (nameAt (genericsOf v x) i)) e refl
 
 -- The parameter that a signature says by its place.
 module _ (name : ℕ → Option Text) (s : List ℕ) (pos : ℕ) {u : Uint} (told : uintSays u ≡ uint s pos) where

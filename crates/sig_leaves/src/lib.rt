@@ -12,7 +12,7 @@ ghost use mathlib.Core.List.{List};
 ghost use Prim.Native.Nat.{ℕ, _<_};
 ghost use Rattle.numbers.specs.Compressed.{uintSays};
 ghost use Rattle.buffers.specs.Writes.{Said, placeSays};
-ghost use Rattle.heaps.specs.Lookups.{string};
+ghost use Rattle.heaps.specs.Lookups.{string, isThere};
 ghost use Rattle.record.specs.Types.{simple, methodStart, generic};
 ghost use Rattle.record.specs.Names.{nameAt, specBlob};
 ghost use Rattle.rows.specs.Columns as columns;
@@ -169,6 +169,48 @@ pub fn push_generic(
     match owner {
         Owner::Of(key) => push_owned(buf, at, tables, strings, layout, key, i),
         Owner::Nobody => Place::Missing,
+    }
+}
+
+// Whether generic parameter i, from 0, of an owner as stored has a name.
+fn has_owned(tables: &[u8], strings: &[u8], layout: &[u32], key: usize, i: usize) -> bool
+    requires { ⌜ Laid (now tables) (now layout) ⌝ }
+    ensures { λ r.
+        ⌜ ((blob : List ℕ)
+        → r ≡ isThere (nameAt (viewIn (now (tables .entry)) (now (layout .entry)) (now (strings .entry)) blob .generics key) i)) ⌝ }
+{
+    match keys::find_key(tables, layout, columns::OWNER, key, i) {
+        Row::At(row) => rows::has_string(tables, strings, layout, columns::GENERIC_NAME, row),
+        Row::NoRow => false,
+    }
+}
+
+// Whether generic parameter i, from 0, has a name.
+pub fn has_generic(tables: &[u8], strings: &[u8], layout: &[u32], owner: Owner, i: usize) -> bool
+    requires { ⌜ Laid (now tables) (now layout) ⌝ }
+    ensures { λ r.
+        ⌜ ((blob : List ℕ)
+        → r ≡ isThere (nameAt (genericsOf (viewIn (now (tables .entry)) (now (layout .entry)) (now (strings .entry)) blob) owner) i)) ⌝ }
+{
+    match owner {
+        Owner::Of(key) => has_owned(tables, strings, layout, key, i),
+        Owner::Nobody => false,
+    }
+}
+
+// Whether a type is its tag alone (II.23.1.16).
+pub fn is_simple(tag: u8) -> bool
+    ensures { λ r. ⌜ r ≡ isThere (simple tag) ⌝ }
+{
+    if tag < 0x0F {
+        return 0 < tag;
+    }
+    match tag {
+        0x16 => true,
+        0x18 => true,
+        0x19 => true,
+        0x1C => true,
+        _ => false,
     }
 }
 

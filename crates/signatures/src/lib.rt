@@ -30,7 +30,7 @@ ghost use Rattle.sig_leaves.specs.Leaves.{genericsOf};
 
 // The two owners, lent as four numbers: an owner by value is copied for each call, which takes 64 bytes more
 // of stack for a nesting.
-type Owners = [usize; 4];
+pub type Owners = [usize; 4];
 
 // Frames for generic types inside of one another: first a few, which suffice nearly always; where they are all in use, many at once, so
 // that each takes few bytes of stack.
@@ -113,7 +113,7 @@ fn key_of(owner: Owner) -> usize
 }
 
 // The numbers of both owners.
-fn owners_of(class: Owner, method: Owner) -> Owners
+pub fn owners_of(class: Owner, method: Owner) -> Owners
     ensures { λ r. ⌜ (ownerAt r 0 ≡ class) × (ownerAt r 2 ≡ method) ⌝ }
 {
     [
@@ -125,7 +125,7 @@ fn owners_of(class: Owner, method: Owner) -> Owners
 }
 
 // The owner whose two numbers stand at a place: the class at 0, the method at 2.
-fn owner_at(owners: &Owners, i: usize) -> Owner
+pub fn owner_at(owners: &Owners, i: usize) -> Owner
     requires { ⌜ i < 3 ⌝ }
     ensures { λ r. ⌜ r ≡ ownerAt (now (owners .entry)) i ⌝ }
 {

@@ -35,8 +35,8 @@ enum-known-owner : tie.Need-enum-known-owner
 enum-known-owner c = search needs
 
 -- src/lib.rt:402:29
-add-t21 : tie.Need-add-t21
-add-t21 c =
+add-t22 : tie.Need-add-t22
+add-t22 c =
     let start = c .before .before .before .before .before .before .before .before .before .before .before .before in
     record { fits = omega (arith, start .pre .1, rows-narrow (start .pre .0) columns.methodSignature (omega arith)) }
 
@@ -63,20 +63,20 @@ slice-aggregate-skip-types : tie.Need-slice-aggregate-skip-types
 slice-aggregate-skip-types c = search needs
 
 -- src/lib.rt:419:32
-add-t26 : tie.Need-add-t26
-add-t26 c =
+add-t27 : tie.Need-add-t27
+add-t27 c =
     let start = c .before .before .before .before .before .before .before .before .before .before .before .before .before .before in
     record { fits = omega (arith, start .pre .1, rows-narrow (start .pre .0) columns.methodSignature (omega arith)) }
 
 -- src/lib.rt:419:27
-mul-t27 : tie.Need-mul-t27
-mul-t27 c =
+mul-t28 : tie.Need-mul-t28
+mul-t28 c =
     let start = c .before .before .before .before .before .before .before .before .before .before .before .before .before .before in
     record { fits = omega (arith, start .pre .1, rows-narrow (start .pre .0) columns.methodSignature (omega arith)) }
 
 -- src/lib.rt:419:27
-add-t28 : tie.Need-add-t28
-add-t28 c =
+add-t29 : tie.Need-add-t29
+add-t29 c =
     let start = c .before .before .before .before .before .before .before .before .before .before .before .before .before .before in
     record { fits = omega (arith, start .pre .1, rows-narrow (start .pre .0) columns.methodSignature (omega arith)) }
 
@@ -85,8 +85,8 @@ skip-types-requires : tie.Need-skip-types-requires
 skip-types-requires c κs = search needs
 
 -- src/lib.rt:425:25
-add-t26-2 : tie.Need-add-t26-2
-add-t26-2 c =
+add-t27-2 : tie.Need-add-t27-2
+add-t27-2 c =
     let start = c .before .before .before .before .before .before .before .before .before .before .before .before .before .before .before .before in
     record { fits = omega (arith, start .pre .1, rows-narrow (start .pre .0) columns.methodSignature (omega arith)) }
 
@@ -134,16 +134,16 @@ find-signature-spec =
     slice-aggregate-read-signature
     read-signature-requires
     enum-known-owner
-    add-t21
+    add-t22
     wide-requires-2
     returns
     cut-requires
     slice-aggregate-skip-types
-    add-t26
-    mul-t27
-    add-t28
+    add-t27
+    mul-t28
+    add-t29
     skip-types-requires
-    add-t26-2
+    add-t27-2
     wide-requires-3
     enum-told
     unread-signature-requires

@@ -7,7 +7,7 @@ use Rattle.classes.specs.Numbering.{placeOf}
 use Rattle.rows.specs.Columns as columns
 use Rattle.rows.specs.Layout.{rowsAt, viewIn}
 use Rattle.rows.proofs.Laws.{rows-narrow}
-use Rattle.method_signatures.specs.Signatures.{readFrom}
+use Rattle.record.specs.Methods.{readersFrom}
 use Rattle.method_signatures.proofs.Laws.{Standing, stand-from, turn-skip, turn-next, read-met, read-last, read-nobody}
 use Rattle.method_signatures.proofs.next_reader.Statement.{statement}
 use Rattle.method_signatures.proofs.next_reader.Tie as tie
@@ -23,7 +23,7 @@ Inv-loop tables layout m n from first₀ place₀ class first place =
     × (first ≤ m → placeOf from < place)
     × (first ≤ m → place ≤ rowsAt layout columns.methodList)
     × ((strings blob : List ℕ)
-    → Standing (viewIn tables layout strings blob) m (readFrom (viewIn tables layout strings blob) m (from .0)) (place - 1) (class .0) first)
+    → Standing (viewIn tables layout strings blob) m (readersFrom (viewIn tables layout strings blob) m (from .0)) (place - 1) (class .0) first)
 
 abbrev μ-loop : tie.MeasureT-loop
 μ-loop tables layout m n from first₀ place₀ class first place = n - place
@@ -53,7 +53,7 @@ loop-holds c =
       λ h. absurd (omega arith),
       λ h. absurd (omega arith),
       λ strings blob. rw at (subst (λ (i : ℕ). Standing (viewIn (a .tables .now) (a .layout .now) strings blob) (a .m)
-          (readFrom (viewIn (a .tables .now) (a .layout .now) strings blob) (a .m) (a .from .0)) i (a .from .0) (a .m + 1)) one
+          (readersFrom (viewIn (a .tables .now) (a .layout .now) strings blob) (a .m) (a .from .0)) i (a .from .0) (a .m + 1)) one
           (stand-from (viewIn (a .tables .now) (a .layout .now) strings blob) (a .m) (a .from .0) (a .from .0))),
     )
 

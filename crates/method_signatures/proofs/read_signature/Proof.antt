@@ -1,4 +1,4 @@
-use mathlib.Core.Path.{refl, _∙_}
+use mathlib.Core.Path.{_≡_, refl, _∙_}
 use Prim.Native.Nat.{_-_, _≤_}
 use native.Mathlib.Omega.{arith}
 use borrow.Author.Needs.{needs}
@@ -8,8 +8,9 @@ use Rattle.record.specs.Names.{classes}
 use Rattle.rows.specs.Columns as columns
 use Rattle.rows.specs.Layout.{viewIn}
 use Rattle.rows.proofs.Classes.{classes-are}
-use Rattle.method_signatures.specs.Signatures.{ReadFrom, missing}
-use Rattle.method_signatures.proofs.Laws.{from-none, reader-is, reader-stands, reader-fails, reading-behind, kept-twice, reading-missed, reading-stands}
+use Rattle.record.specs.Methods.{signatureOf}
+use Rattle.method_signatures.specs.Signatures.{missing}
+use Rattle.method_signatures.proofs.Laws.{later-last, standing, standing-all, standing-none, reader-is, reader-stands, reader-fails, reading-behind, kept-twice, reading-missed, reading-stands}
 use Rattle.method_signatures.proofs.read_signature.Statement.{statement}
 use Rattle.method_signatures.proofs.read_signature.Tie as tie
 use Rattle.method_signatures.proofs.read_signature.Reads as reads
@@ -20,7 +21,8 @@ use Rattle.method_signatures.proofs.read_by.Reads as read-by-reads
 use Rattle.rows.proofs.count_rows.Reads as count-rows-reads
 
 abbrev Inv-loop : tie.InvT-loop
-Inv-loop buf₀ at tables strings blob layout m n class₀ buf class = Kept buf₀ at buf × ReadFrom (viewIn tables layout strings blob) m (class .0)
+Inv-loop buf₀ at tables strings blob layout m n class₀ buf class =
+    let v = viewIn tables layout strings blob in Kept buf₀ at buf × (signatureOf v m ≡ standing v m (class .0))
 
 abbrev μ-loop : tie.MeasureT-loop
 μ-loop buf₀ at tables strings blob layout m n class₀ buf class = n - class .0
@@ -37,7 +39,7 @@ first-reader-requires c κs = search needs
 loop-holds : tie.Need-loop-holds Inv-loop μ-loop
 loop-holds c =
     let start = c .before .before .before .before .before .before .before in
-    (kept-same _ _, c .first-reader .ensures (start .args .strings .now) (start .args .blob .now))
+    (kept-same _ _, standing-all _ _ _ (c .first-reader .ensures (start .args .strings .now) (start .args .blob .now)))
 
 -- src/lib.rt:0:0
 place-of-requires : tie.Need-place-of-requires Inv-loop μ-loop
@@ -127,7 +129,7 @@ returns-2 c =
     let a = start .args in
     let v = viewIn (a .tables .now) (a .layout .now) (a .strings .now) (a .blob .now) in
     let answer = asked .next-reader .ensures (a .strings .now) (a .blob .now) in
-    missing (l .inv .1 ∙ reader-is v (a .m) (l .class .0) answer (c .enum-told2 .given .1)) (l .inv .0)
+    missing (l .inv .1 ∙ standing-none v (a .m) (l .class .0) (reader-is v (a .m) (l .class .0) answer (c .enum-told2 .given .1))) (l .inv .0)
 
 -- src/lib.rt:153:1
 same-length-3 : tie.Need-same-length-3 Inv-loop μ-loop
@@ -142,7 +144,7 @@ returns-3 c =
     let v = viewIn (a .tables .now) (a .layout .now) (a .strings .now) (a .blob .now) in
     let all = classes-are (start .pre .0) (a .strings .now) (a .blob .now) columns.methodList (omega arith) refl in
     let past : classes v ≤ l .class .0 = omega (arith, c .if1 .left, c .before .place-of .ensures, c .before .before .before .before .count-rows .ensures, all) in
-    missing (l .inv .1 ∙ from-none v (a .m) (l .class .0) past) (l .inv .0)
+    missing (l .inv .1 ∙ standing-none v (a .m) (l .class .0) (later-last v (a .m) (l .class .0) past)) (l .inv .0)
 
 pub read-signature-spec : {M : Type 1} → statement M
 read-signature-spec =

@@ -22,8 +22,8 @@ enum-known-owner : tie.Need-enum-known-owner
 enum-known-owner c = search needs
 
 -- src/lib.rt:352:25
-add-t20 : tie.Need-add-t20
-add-t20 c =
+add-t21 : tie.Need-add-t21
+add-t21 c =
     let start = c .before .before .before .before .before .before .before .before .before .before .before .before in
     record { fits = omega (arith, start .pre .1, rows-narrow (start .pre .0) columns.methodSignature (omega arith)) }
 
@@ -70,7 +70,7 @@ tell-return-type-spec =
     (tie.spec
     read-signature-requires
     enum-known-owner
-    add-t20
+    add-t21
     wide-requires
     enum-told
     unread-signature-requires

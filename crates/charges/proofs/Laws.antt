@@ -1,0 +1,48 @@
+-- An answer within an allowance, by what was counted and what it came to. Assumes nothing.
+use mathlib.Core.Path.{_≡_, refl, ap, _∙_}
+use mathlib.Core.List.{List}
+use Prim.Native.Nat.{ℕ, _+_, _-_}
+use native.Mathlib.Omega.{arith}
+use lib.ListN.{length}
+use Rattle.buffers.specs.Texts.{Text}
+use Rattle.buffers.specs.Replies.{Answer, refusedBy, replySays, Named}
+use Rattle.buffers.specs.declared.Refusal.the-variants.{TooManySteps}
+use Rattle.buffers.specs.declared.Reply.{Reply}
+use Rattle.buffers.specs.declared.Reply.the-variants.{No}
+use Rattle.record.specs.Answers.{Numbered}
+use Rattle.record.specs.Allowance.{countOf, cost, charge, NumberedCharged, NamedCharged}
+use Rattle.record.proofs.Allowance.{cost-replied, charge-spent, charge-fits}
+use Rattle.steps.specs.Counting.{Takes, left}
+use Rattle.steps.specs.declared.Steps.{Steps}
+use Rattle.steps.specs.declared.Steps.the-variants.{Left, Spent}
+use Rattle.steps.proofs.Laws.{takes-left, takes-spent}
+
+-- A call that counts nothing.
+pub takes-nothing : (steps : ℕ) → Takes 0 steps (Left steps)
+takes-nothing steps = left {rest = steps} (omega arith)
+
+module _ (steps : ℕ) (work : Answer ℕ) {r : Steps} (takes : Takes (countOf work) steps r) where
+  module _ {after x : ℕ} (e : r ≡ Left after) {reply : Reply} (rest : (n : ℕ) → n + after ≡ steps → x ≡ steps - cost n (replySays reply)) where
+    pub number-left : (a : Answer ℕ) → Numbered a reply → NumberedCharged (charge steps work a) reply x
+    number-left a says =
+        let paid = takes-left takes e in
+        rw (charge-fits steps work a (omega (arith, paid)))
+        (record { says = says; leaves = rest (countOf work) paid ∙ ap (λ (b : Answer ℕ). steps - cost (countOf work) b) says })
+
+    pub name-left : (a : Answer Text) {b b′ : List ℕ} → Named a b reply b′ → NamedCharged (charge steps work a) b reply b′ x
+    name-left a {b} says =
+        let paid = takes-left takes e in
+        rw (charge-fits steps work a (omega (arith, paid)))
+        (record {
+          named = says;
+          leaves = rest (countOf work) paid ∙ ap (λ (c : Answer ℕ). steps - cost (countOf work) c) (says .reply)
+              ∙ ap (λ (n : ℕ). steps - n) (cost-replied (countOf work) a (length b));
+        })
+
+  module _ (e : r ≡ Spent) where
+    pub number-spent : (a : Answer ℕ) → NumberedCharged (charge steps work a) (No TooManySteps) 0
+    number-spent a = rw (charge-spent steps work a (takes-spent takes e)) (record { says = refl; leaves = refl })
+
+    pub name-spent : (a : Answer Text) {b b′ : List ℕ} {reply : Reply} → Named (refusedBy TooManySteps) b reply b′
+        → NamedCharged (charge steps work a) b reply b′ 0
+    name-spent a says = rw (charge-spent steps work a (takes-spent takes e)) (record { named = says; leaves = refl })

@@ -1,0 +1,82 @@
+-- What the readings of a method's signature take of the steps, reader by reader. Assumes nothing.
+use mathlib.Core.Path.{_≡_, sym, ap, subst}
+use mathlib.Core.List.{List, [], _∷_, map}
+use Prim.Native.Nat.{ℕ, _+_, _*_, _<_}
+use native.Mathlib.Omega.{arith}
+use Rattle.numbers.specs.Reading.{Res}
+use Rattle.numbers.specs.Parts.{part}
+use Rattle.buffers.specs.declared.Reason.{Reason}
+use Rattle.heaps.specs.Lookups.{blobAt}
+use Rattle.heaps.specs.declared.Part.{Part}
+use Rattle.heaps.specs.declared.Part.the-variants.{Found, Absent}
+use Rattle.record.specs.Readings.{total}
+use Rattle.record.specs.View.{View}
+use Rattle.record.specs.Names.{env, classGenerics, methodGenerics}
+use Rattle.record.specs.Methods.{Signature, signature, reading, readSteps, readersFrom, methodSteps}
+use Rattle.rows.specs.Columns as columns
+use Rattle.rows.specs.Layout.{Laid, rowsAt, cell, viewIn}
+use Rattle.sig_leaves.specs.declared.Owner.the-variants.{Of}
+use Rattle.signatures.specs.Environment.{envIn}
+use Rattle.steps.specs.Counting.{Takes, left, spent}
+use Rattle.steps.specs.declared.Steps.{Steps}
+use Rattle.steps.specs.declared.Steps.the-variants.{Left, Spent}
+use Rattle.steps.proofs.Laws.{takes-left, takes-spent}
+use Rattle.passing.specs.Passing.{Passes, leftOf}
+use Rattle.passing.specs.declared.Passed.{Passed}
+use Rattle.passing.proofs.Laws.{passes-takes}
+use Rattle.method_signatures.specs.Signatures.{ReadFrom}
+use Rattle.method_signatures.proofs.Laws.{unread-blob, read-part}
+
+-- ---- A class's reading
+
+steps-of : (v : View) (m c : ℕ) {d : Res Signature} → reading v m c ≡ d → d .steps ≡ readSteps v m c
+unfolding readSteps
+steps-of v m c e = ap (λ (x : Res Signature). x .steps) (sym e)
+
+module _ {t l : List ℕ} (laid : Laid t l) (strings heap : List ℕ) (m c : ℕ) (h : m < rowsAt l columns.methodSignature)
+    {p : Part} {i : ℕ} (told : i ≡ cell t l columns.methodSignature m) (looked : p ≡ blobAt heap i) (steps : ℕ) where
+  abbrev v : View
+  v = viewIn t l strings heap
+
+  pub no-blob-takes : {why : Reason} → p ≡ Absent why → Takes (readSteps v m c) steps (Left steps)
+  no-blob-takes e =
+      let none = steps-of v m c (unread-blob laid strings heap m c h told looked e) in left {rest = steps} (omega (arith, none))
+
+  pub reading-takes : {start len : ℕ} → p ≡ Found start len → {sig : List ℕ} → sig ≡ part heap start len → {owner : ℕ} → owner ≡ 2 * (c + 2)
+      → {q : Passed} {r : Steps} → Passes (signature (envIn t l strings heap (Of owner) (Of (2 * (m + 1) + 1))) sig 0) steps q → r ≡ leftOf q
+      → Takes (readSteps v m c) steps r
+  unfolding envIn
+  reading-takes {start} {len} e is its {q} {r} passes rest =
+      let here : Passes (signature (env v (classGenerics v c) (methodGenerics v m)) (part heap start len) 0) steps q = rw (is, its) at passes in
+      subst (λ (n : ℕ). Takes n steps r) (steps-of v m c (read-part laid strings heap m c h told looked e)) (passes-takes here rest)
+
+-- ---- All of them
+
+-- The steps of the classes from c on.
+unfoldable pub stepsFrom : View → ℕ → ℕ → ℕ
+stepsFrom v m c = total (map (readSteps v m) (readersFrom v m c))
+
+-- So many are left for the classes from c on.
+pub record Paying (v : View) (m steps c have : ℕ) : Type 0 where
+  pub paid : methodSteps v m + have ≡ stepsFrom v m c + steps
+
+module _ (v : View) (m steps : ℕ) where
+  pub pay-start : (c : ℕ) → ReadFrom v m c → Paying v m steps c steps
+  unfolding stepsFrom methodSteps
+  pay-start c e = record { paid = ap (λ (l : List ℕ). total (map (readSteps v m) l) + steps) e }
+
+  pub pay-end : {c have : ℕ} → Paying v m steps c have → readersFrom v m c ≡ [] → Takes (methodSteps v m) steps (Left have)
+  unfolding stepsFrom
+  pay-end {c} {have} pays e = let none : stepsFrom v m c ≡ 0 = rw e in left {rest = have} (omega (arith, pays .paid, none))
+
+  module _ {c : ℕ} (reader next : ℕ) {have : ℕ} (pays : Paying v m steps c have) (is : readersFrom v m c ≡ reader ∷ readersFrom v m next)
+      {r : Steps} (takes : Takes (readSteps v m reader) have r) where
+    one-more : stepsFrom v m c ≡ readSteps v m reader + stepsFrom v m next
+    unfolding stepsFrom
+    one-more = rw is
+
+    pub pay-more : {k : ℕ} → r ≡ Left k → Paying v m steps next k
+    pay-more e = record { paid = omega (arith, pays .paid, one-more, takes-left takes e) }
+
+    pub pay-spent : r ≡ Spent → Takes (methodSteps v m) steps Spent
+    pay-spent e = spent (omega (arith, pays .paid, one-more, takes-spent takes e))

@@ -1,0 +1,6 @@
+pub mod Laws
+pub mod Forms
+pub mod Shapes
+pub mod Levels
+pub mod Methods
+pub mod Bounds
