@@ -9,6 +9,8 @@ use module::dotnet::{fields, values};
 mod bundle;
 #[allow(dead_code)]
 mod module;
+#[allow(dead_code)]
+mod record;
 
 /// `struct bytes` of tests/fuzz/calls.h.
 #[repr(C)]

@@ -6,29 +6,38 @@ use std::io::{self, BufRead, BufReader, BufWriter, ErrorKind::InvalidData, Read,
 use std::process::exit;
 use std::{env, panic, thread};
 
-use module::dotnet::probe::{self, NoAnswer};
+use bundle::Streams;
+use module::dotnet::probe;
+use record::{ClassRecord, NoAnswer};
 
 mod bundle;
+mod counted;
 mod lines;
 // What the tables half leaves unused is dead code here.
 #[allow(dead_code)]
 mod module;
+mod record;
 mod text;
 
 /// The Rust's recursion is as deep as signatures are long.
 const STACK: usize = 1 << 30;
 
+/// The steps that a listing allows for a name (2026-06).
+const CEILING: u64 = 1_000_000;
+
 const USAGE: &str =
-    "usage: oracle [--extents | --record] [--check] [--batch FILE], or oracle --leaves";
+    "usage: oracle [--extents | --record | --steps] [--ceiling STEPS] [--check] [--batch FILE], or oracle --leaves";
 
 #[derive(Clone, Copy)]
 enum Mode {
     Extents,
     Classes(text::Style),
+    Steps,
 }
 
 struct Options {
     mode: Mode,
+    ceiling: u64,
     check: bool,
     batch: Option<String>,
     leaves: bool,
@@ -57,6 +66,7 @@ fn main() {
 fn options() -> Option<Options> {
     let mut options = Options {
         mode: Mode::Classes(text::Style::Listing),
+        ceiling: CEILING,
         check: false,
         batch: None,
         leaves: false,
@@ -66,6 +76,8 @@ fn options() -> Option<Options> {
         match argument.as_str() {
             "--extents" => options.mode = Mode::Extents,
             "--record" => options.mode = Mode::Classes(text::Style::Record),
+            "--steps" => options.mode = Mode::Steps,
+            "--ceiling" => options.ceiling = arguments.next()?.parse().ok()?,
             "--check" => options.check = true,
             "--batch" => options.batch = Some(arguments.next()?),
             "--leaves" => options.leaves = true,
@@ -154,13 +166,45 @@ fn answer(options: &Options, input: &[u8]) -> (Vec<u8>, bool) {
 
 fn try_answer(options: &Options, input: &[u8]) -> Result<Vec<u8>, NoAnswer> {
     let streams = bundle::open(input).ok_or(NoAnswer::Refused(8))?;
-    if options.check && !probe::agrees(&streams) {
+    match options.mode {
+        Mode::Extents => {
+            if options.check && !counted::record(&streams, options.ceiling).over {
+                check(&streams)?;
+            }
+            probe::extents(&streams).map(|walk| text::walk(&walk))
+        }
+        Mode::Classes(style) => {
+            record(options, &streams).map(|(stop, classes)| text::classes(stop, &classes, style))
+        }
+        Mode::Steps => record(options, &streams).map(|(_, classes)| text::steps(&classes)),
+    }
+}
+
+fn check(streams: &Streams) -> Result<(), NoAnswer> {
+    if !probe::agrees(streams) {
         return Err(NoAnswer::Inconsistent("add_metadata_tables"));
     }
-    match options.mode {
-        Mode::Extents => probe::extents(&streams).map(|walk| text::walk(&walk)),
-        Mode::Classes(style) => {
-            probe::record(&streams).map(|(stop, classes)| text::classes(stop, &classes, style))
-        }
+    Ok(())
+}
+
+/// The stopping kind and the class record with its steps. Where nothing is over the ceiling, the record is that of the copy that counts
+/// nothing, which need not come back elsewhere.
+fn record(options: &Options, streams: &Streams) -> Result<(usize, Vec<ClassRecord>), NoAnswer> {
+    let counted = counted::record(streams, options.ceiling);
+    if counted.over {
+        return counted.record;
     }
+    if options.check {
+        check(streams)?;
+    }
+    let plain = probe::record(streams).map(|found| whole(&found));
+    match (plain, counted.record) {
+        (Ok(plain), Ok(found)) if plain == whole(&found) => Ok(found),
+        (Err(plain), Err(why)) if plain == why => Err(why),
+        _ => Err(NoAnswer::Inconsistent("counting")),
+    }
+}
+
+fn whole((stop, classes): &(usize, Vec<ClassRecord>)) -> Vec<u8> {
+    text::classes(*stop, classes, text::Style::Record)
 }

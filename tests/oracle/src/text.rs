@@ -1,6 +1,6 @@
 //! The answers as text.
 
-use crate::module::dotnet::probe::{ClassRecord, MethodRecord, Text, Walk};
+use crate::record::{ClassRecord, MethodRecord, Steps, Text, Walk};
 
 /// A longer value is not printed in a listing.
 const LONGEST: usize = 4096;
@@ -37,6 +37,26 @@ pub fn classes(stop: usize, classes: &[ClassRecord], style: Style) -> Vec<u8> {
     page.out
 }
 
+/// A line for the base types of each class, and one for each of its methods: how many steps they take.
+pub fn steps(classes: &[ClassRecord]) -> Vec<u8> {
+    let mut out = String::new();
+    for (c, class) in classes.iter().enumerate() {
+        out += &format!("class={c} steps={}\n", count(class.steps));
+        for (m, method) in class.methods.iter().enumerate() {
+            out += &format!("method={c},{m} steps={}\n", count(method.steps));
+        }
+    }
+    out.into_bytes()
+}
+
+fn count(steps: Steps) -> String {
+    match steps {
+        Steps::Are(number) => number.to_string(),
+        Steps::Over => "!".to_string(),
+        Steps::Untold => unreachable!(),
+    }
+}
+
 struct Page {
     style: Style,
     out: Vec<u8>,
@@ -47,7 +67,10 @@ impl Page {
         self.text("class", &class.name);
         self.number("flags", class.flags);
         self.texts("generic", &class.generics);
-        self.texts("base", &class.bases);
+        match class.steps {
+            Steps::Over => self.over("base"),
+            _ => self.texts("base", &class.bases),
+        }
         for method in &class.methods {
             self.method(method);
         }
@@ -57,6 +80,9 @@ impl Page {
         self.text("method", &method.name);
         self.number("mflags", method.flags);
         self.texts("mgeneric", &method.generics);
+        if let Steps::Over = method.steps {
+            return self.over("returns");
+        }
         self.text("returns", &method.returns);
         for param in &method.params {
             self.text("ptype", &param.typ);
@@ -66,6 +92,11 @@ impl Page {
 
     fn number<N: std::fmt::Display>(&mut self, key: &str, number: N) {
         self.out.extend(format!("{key}={number}\n").into_bytes());
+    }
+
+    /// In place of all the names that take too many steps (2026-06).
+    fn over(&mut self, key: &str) {
+        self.out.extend(format!("{key}=!\n").into_bytes());
     }
 
     fn texts(&mut self, key: &str, texts: &[Text]) {

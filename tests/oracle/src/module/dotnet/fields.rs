@@ -8,9 +8,10 @@
 use std::mem::forget;
 
 use super::page::{bytes, Page};
-use super::probe::{open, refusal, tables_data, NoAnswer};
+use super::probe::{open, refusal, tables_data};
 use super::*;
 use crate::bundle::Streams;
+use crate::record::NoAnswer;
 
 /// Writes the listing to the front of `out`; how many bytes that are.
 pub fn write(streams: &Streams, out: &mut [u8]) -> usize {

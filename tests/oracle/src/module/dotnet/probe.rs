@@ -8,16 +8,7 @@ use std::panic::{catch_unwind, AssertUnwindSafe};
 
 use super::*;
 use crate::bundle::Streams;
-
-pub type Text = Option<Vec<u8>>;
-
-pub enum NoAnswer {
-    Refused(u8),
-    /// The Rust panicked.
-    Panicked,
-    /// The probe and the Rust do not agree: a fault of the probe.
-    Inconsistent(&'static str),
-}
+use crate::record::{ClassRecord, Extent, MethodRecord, NoAnswer, ParamRecord, Steps, Text, Walk};
 
 /// The number that `open` says no with.
 pub(super) fn refusal(why: NoAnswer) -> u8 {
@@ -25,39 +16,6 @@ pub(super) fn refusal(why: NoAnswer) -> u8 {
         NoAnswer::Refused(number) => number,
         _ => unreachable!(),
     }
-}
-
-#[derive(Clone, Copy, Default)]
-pub struct Extent {
-    pub start: usize,
-    pub row_size: usize,
-    pub rows: usize,
-}
-
-pub struct Walk {
-    pub extents: [Extent; 64],
-    pub stop: usize,
-}
-
-pub struct ClassRecord {
-    pub name: Text,
-    pub flags: u32,
-    pub generics: Vec<Text>,
-    pub bases: Vec<Text>,
-    pub methods: Vec<MethodRecord>,
-}
-
-pub struct MethodRecord {
-    pub name: Text,
-    pub flags: u16,
-    pub generics: Vec<Text>,
-    pub returns: Text,
-    pub params: Vec<ParamRecord>,
-}
-
-pub struct ParamRecord {
-    pub typ: Text,
-    pub name: Text,
 }
 
 /// The extents of the tables. Names are not rendered, so that nothing here can panic.
@@ -293,6 +251,7 @@ impl Found {
                 generics: texts(field(class, "generic_parameters")),
                 bases: texts(field(class, "base_types")),
                 methods: self.methods(field(class, "methods")),
+                steps: Steps::Untold,
             })
             .collect()
     }
@@ -301,22 +260,19 @@ impl Found {
         array(methods)
             .iter()
             .map(|method| {
-                let note = self.note(method);
+                let number = number(method);
+                let note = &self.notes[number];
                 MethodRecord {
+                    number,
                     name: note.name.clone(),
                     flags: note.flags,
                     generics: texts(field(method, "generic_parameters")),
                     returns: text(field(method, "return_type")),
                     params: params(field(method, "parameters")),
+                    steps: Steps::Untold,
                 }
             })
             .collect()
-    }
-
-    fn note(&self, method: &Value) -> &MethodNote {
-        let number = text(field(method, "name")).unwrap();
-        let number: usize = String::from_utf8(number).unwrap().parse().unwrap();
-        &self.notes[number]
     }
 
     /// The values as they are without the renaming.
@@ -324,7 +280,7 @@ impl Found {
         let mut values = self.values.clone();
         for class in array_mut(values.get_mut("classes").unwrap()) {
             for method in array_mut(field_mut(class, "methods")) {
-                let name = self.note(method).name.clone();
+                let name = self.notes[number(method)].name.clone();
                 if matches!(name.as_deref(), Some(b".ctor" | b".cctor")) {
                     *field_mut(method, "return_type") = Value::Undefined;
                 }
@@ -333,6 +289,12 @@ impl Found {
         }
         values
     }
+}
+
+/// The number of a method, which stands in place of its name.
+fn number(method: &Value) -> usize {
+    let number = text(field(method, "name")).unwrap();
+    String::from_utf8(number).unwrap().parse().unwrap()
 }
 
 fn params(params: &Value) -> Vec<ParamRecord> {
