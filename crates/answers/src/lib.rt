@@ -19,13 +19,22 @@ ghost use Rattle.questions.specs.Questions.{numberCall, nameCall};
 ghost use Rattle.places.specs.Places.{Owns};
 ghost use Rattle.method_signatures.specs.Known.{KnowsSignature};
 ghost use Rattle.bases.specs.Candidates.{KnowsBases};
-ghost use Rattle.answers.specs.Known.{Knows};
+ghost use Rattle.answers.specs.Known.{KnowsFits, Knows};
+
+// What was counted and is within the ceiling of a listing: the base types of a class, and the signature of a method of a class. A class
+// stands here by its number and 1; 0 is none.
+pub struct Fits {
+    pub bases: usize,
+    pub signature: usize,
+    pub method: u32,
+}
 
 // What is known.
 pub struct Known {
     pub own: Own,
     pub signature: Signature,
     pub bases: Bases,
+    pub fits: Fits,
 }
 
 // What the answer for a name came to, and what is known after it.
@@ -47,10 +56,16 @@ pub fn nothing_known() -> Known
     let own = places::no_own();
     let signature = method_signatures::no_signature();
     let bases = bases::no_bases();
+    let fits = Fits {
+        bases: 0,
+        signature: 0,
+        method: 0,
+    };
     Known {
         own,
         signature,
         bases,
+        fits,
     }
 }
 
@@ -60,10 +75,12 @@ fn with_own(known: Known, own: Own) -> Known
 {
     let signature = known.signature;
     let bases = known.bases;
+    let fits = known.fits;
     Known {
         own,
         signature,
         bases,
+        fits,
     }
 }
 
@@ -73,10 +90,12 @@ fn with_signature(known: Known, own: Own, signature: Signature) -> Known
         ⌜ ((v : View) (heap : List ℕ) → Knows v heap known → Owns v own → KnowsSignature v heap signature → Knows v heap r) ⌝ }
 {
     let bases = known.bases;
+    let fits = known.fits;
     Known {
         own,
         signature,
         bases,
+        fits,
     }
 }
 
@@ -86,10 +105,26 @@ fn with_bases(known: Known, bases: Bases) -> Known
 {
     let own = known.own;
     let signature = known.signature;
+    let fits = known.fits;
     Known {
         own,
         signature,
         bases,
+        fits,
+    }
+}
+
+// The same with something more that fits.
+pub fn with_fits(known: Known, own: Own, fits: Fits) -> Known
+    ensures { λ r. ⌜ ((v : View) (heap : List ℕ) → Knows v heap known → Owns v own → KnowsFits v fits → Knows v heap r) ⌝ }
+{
+    let signature = known.signature;
+    let bases = known.bases;
+    Known {
+        own,
+        signature,
+        bases,
+        fits,
     }
 }
 

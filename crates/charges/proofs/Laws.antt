@@ -1,17 +1,22 @@
 -- An answer within an allowance, by what was counted and what it came to. Assumes nothing.
-use mathlib.Core.Path.{_≡_, refl, ap, _∙_}
+use mathlib.Core.Path.{_≡_, refl, sym, ap, subst, _∙_}
+use mathlib.Core.Bool.{true, false}
 use mathlib.Core.List.{List}
 use Prim.Native.Nat.{ℕ, _+_, _-_}
 use native.Mathlib.Omega.{arith}
+use borrow.Author.Tests.{lt-ltb, le-ltb}
 use lib.ListN.{length}
 use Rattle.buffers.specs.Texts.{Text}
-use Rattle.buffers.specs.Replies.{Answer, refusedBy, replySays, Named}
+use Rattle.buffers.specs.Replies.{Answer, value, refusedBy, replySays, Named}
 use Rattle.buffers.specs.declared.Refusal.the-variants.{TooManySteps}
 use Rattle.buffers.specs.declared.Reply.{Reply}
 use Rattle.buffers.specs.declared.Reply.the-variants.{No}
 use Rattle.record.specs.Answers.{Numbered}
-use Rattle.record.specs.Allowance.{countOf, cost, charge, NumberedCharged, NamedCharged}
+use Rattle.record.specs.View.{View}
+use Rattle.record.specs.Allowance.{baseWork, methodWork, countOf, cost, charge, NumberedCharged, NamedCharged, ceiling, isOver}
 use Rattle.record.proofs.Allowance.{cost-replied, charge-spent, charge-fits}
+use Rattle.answers.specs.Known.{KnowsFits}
+use Rattle.answers.specs.declared.Fits.{Fits}
 use Rattle.steps.specs.Counting.{Takes, left}
 use Rattle.steps.specs.declared.Steps.{Steps}
 use Rattle.steps.specs.declared.Steps.the-variants.{Left, Spent}
@@ -46,3 +51,44 @@ module _ (steps : ℕ) (work : Answer ℕ) {r : Steps} (takes : Takes (countOf w
     pub name-spent : (a : Answer Text) {b b′ : List ℕ} {reply : Reply} → Named (refusedBy TooManySteps) b reply b′
         → NamedCharged (charge steps work a) b reply b′ 0
     name-spent a says = rw (charge-spent steps work a (takes-spent takes e)) (record { named = says; leaves = refl })
+
+-- ---- What is within the ceiling of a listing
+
+pub nothing-over : isOver (value 0) ≡ false
+unfolding isOver
+nothing-over = refl
+
+module _ (v : View) where
+  pub base-fits : (k : Fits) (c : ℕ) → KnowsFits v k → k .bases ≡ c + 1 → isOver (baseWork v c) ≡ false
+  base-fits k c knows e =
+      let i : k .bases - 1 ≡ c = omega arith in
+      subst (λ (x : ℕ). isOver (baseWork v x) ≡ false) i (knows .bases (omega arith))
+
+  pub method-fits : (k : Fits) (c m : ℕ) → KnowsFits v k → k .signature ≡ c + 1 → k .method ≡ m → isOver (methodWork v c m) ≡ false
+  method-fits k c m knows e f =
+      let i : k .signature - 1 ≡ c = omega arith in
+      rw (← i, ← f) (knows .signature (omega arith))
+
+  pub knows-base : (k : Fits) (c x : ℕ) → KnowsFits v k → x ≡ c → isOver (baseWork v c) ≡ false
+      → KnowsFits v (record { bases = x + 1; signature = k .signature; method = k .method })
+  knows-base k c x knows e h = record {
+    bases = λ _. let i : c ≡ x + 1 - 1 = omega arith in subst (λ (y : ℕ). isOver (baseWork v y) ≡ false) i h;
+    signature = knows .signature;
+  }
+
+  pub knows-method : (k : Fits) (c m x : ℕ) → KnowsFits v k → x ≡ c → isOver (methodWork v c m) ≡ false
+      → KnowsFits v (record { bases = k .bases; signature = x + 1; method = m })
+  knows-method k c m x knows e h = record {
+    bases = knows .bases;
+    signature = λ _. let i : c ≡ x + 1 - 1 = omega arith in subst (λ (y : ℕ). isOver (methodWork v y m) ≡ false) i h;
+  }
+
+-- By what was counted of the ceiling.
+module _ (work : Answer ℕ) {r : Steps} (takes : Takes (countOf work) ceiling r) where
+  pub within-it : {rest : ℕ} → r ≡ Left rest → false ≡ isOver work
+  unfolding isOver
+  within-it e = let paid = takes-left takes e in sym (le-ltb ceiling (countOf work) (omega (arith, paid)))
+
+  pub beyond-it : r ≡ Spent → true ≡ isOver work
+  unfolding isOver
+  beyond-it e = sym (lt-ltb ceiling (countOf work) (takes-spent takes e))

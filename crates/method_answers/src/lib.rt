@@ -307,3 +307,21 @@ pub fn pass_readings_of(
         MethodRow::NoRow => Steps::Left(steps),
     }
 }
+
+// Whether so many steps surely suffice for all readings of a method's signature.
+pub fn surely_fits_of(
+    tables: &[u8],
+    blob: &[u8],
+    layout: &[u32],
+    row: MethodRow,
+    steps: u64,
+) -> bool
+    requires { ⌜ Laid (now tables) (now layout) ⌝ }
+    ensures { λ r. let v = λ strings. viewIn (now (tables .entry)) (now (layout .entry)) strings (now (blob .entry)) in
+        ⌜ ((strings : List ℕ) (c m : ℕ) → MethodRowIs (v strings) c m row → r ≡ true → countOf (methodWork (v strings) c m) ≤ steps) ⌝ }
+{
+    match row_inside(layout, row) {
+        MethodRow::Row(i) => method_signatures::surely_fits(tables, blob, layout, i, steps),
+        MethodRow::NoRow => true,
+    }
+}

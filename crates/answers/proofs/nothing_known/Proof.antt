@@ -1,3 +1,4 @@
+use native.Mathlib.Omega.{arith}
 use borrow.Author.Needs.{needs}
 use Rattle.answers.proofs.nothing_known.Statement.{statement}
 use Rattle.answers.proofs.nothing_known.Tie as tie
@@ -21,7 +22,12 @@ no-bases-requires c κs = search needs
 
 -- src/lib.rt:44:1
 returns : tie.Need-returns
-returns c = λ v heap. record { own = c .before .before .no-own .ensures v; signature = c .before .no-signature .ensures v heap; bases = c .no-bases .ensures v }
+returns c = λ v heap. record {
+  own = c .before .before .no-own .ensures v;
+  signature = c .before .no-signature .ensures v heap;
+  bases = c .no-bases .ensures v;
+  fits = record { bases = λ h. absurd (omega arith); signature = λ h. absurd (omega arith) };
+}
 
 pub nothing-known-spec : {M : Type 1} → statement M
 nothing-known-spec =
