@@ -9,8 +9,8 @@
  * Three streams are lent to a call: the tables stream (II.24.2.6), the strings heap (II.24.2.3) and the blob heap (II.24.2.4), each as a
  * pointer and a length. An absent heap is one of length 0. A pointer may be null where its length is 0, also that of the tables stream,
  * of a buffer, of words or of offsets. The streams may be any bytes and may overlap one another; a buffer overlaps nothing else, nor do
- * words or offsets. Nothing may write to a stream while a call runs. A call keeps nothing: it writes to the buffer and to the words or the
- * offsets that it is lent and to nothing else, allocates nothing, and may run in many threads at once.
+ * words, offsets or steps. Nothing may write to a stream while a call runs. A call keeps nothing: it writes to the buffer and to the words,
+ * the offsets or the steps that it is lent and to nothing else, allocates nothing, and may run in many threads at once.
  *
  * Then come the options, a set of bits that says how the streams are opened: 0 is the base. No other bit has a meaning yet, and bits
  * without one are ignored. A dn_streams holds all seven, and DN_STREAMS spreads it:
@@ -32,13 +32,34 @@
  *     6  the name is longer than its buffer; how long it is is not told, so a caller doubles the buffer and asks again. For a type-name
  *        section: it or its offsets have no room
  *     7  a heap lookup finds nothing; for a string the reason says why
+ *    11  the call counts more steps than it is allowed
+ *
+ * Type specifications can name each other, so that a type takes more work than any caller has time for. The calls that read types
+ * therefore count steps, and are lent an allowance of them: `steps` points to a number that is the allowance before the call and what is
+ * left of it after, and is never null. A step is a type byte that is read: the first byte of a type in a signature (II.23.2.12), also
+ * where the type then fails, and of each type in a type specification each time that it is named; what else stands in a type is none.
+ *
+ *     dn_base_count, dn_base_name         all base types of the class, those without a name included
+ *     dn_return_type, dn_param_count,     all of the method's signature, the return type and every parameter, once for each class whose
+ *     dn_param_type, dn_param_name        method range has the method
+ *     dn_ask_number, dn_ask_name          as the call that the question means; every other call counts nothing
+ *
+ * A call is refused in this order: 1, 2, 3; 4 for the class or the method, or a question that there is not; 11 exactly where it counts more
+ * than the allowance; 4 for the base type or the parameter; 5; 6. After a value, 5 or 6 the steps are less by what it counts; after 11
+ * they are 0; after every other refusal they are as before. A larger allowance changes no answer but 11. A call reads at most twice as many
+ * type bytes as it is allowed. A step does not take constant time: the shape of an array may be as long as its blob, and a generic
+ * parameter is searched for.
+ *
+ *     uint64_t steps = 1000000;
+ *     dn_reply r = dn_return_type(DN_STREAMS(s), &steps, class_number, method, buf, buf_len);
  *
  * A call for a name answers its length. Its bytes then stand at the front of the buffer, and every other byte of the buffer is 0; so is
  * every byte where the call is refused. A name is bytes as they stand in the file: no zero ends it.
  *
  * Stack: for streams of up to 65,536 bytes in all, the usual 8 MiB suffice; no call takes more than 4 of them, which tests/stack holds
- * the archive to. Types in larger streams may nest deeper: a call takes at most 40 bytes of stack for each byte of its streams, and 128
- * KiB besides (docs/DECISIONS.md, "Stack"). */
+ * the archive to. Types in larger streams may nest deeper: a call takes at most 41 bytes of stack for each byte of its streams, and 128
+ * KiB besides (docs/DECISIONS.md, "Stack"). But no call nests deeper than its allowance: it takes at most 3 bytes for each step that it is
+ * allowed, and 128 KiB besides, on streams of any size. So 8 MiB suffice with up to 1,000,000 steps, and for a listing. */
 #ifndef DOTNET_TABLES_H
 #define DOTNET_TABLES_H
 
@@ -50,7 +71,7 @@ extern "C" {
 #endif
 
 /* The version of this interface, and that of the archive. What changes a signature, a struct or DN_LONGEST_LINE raises both. */
-#define DN_VERSION 4u
+#define DN_VERSION 5u
 uint32_t dn_version(void);
 
 /* What a refusal's number means. */
@@ -62,7 +83,8 @@ enum {
     DN_NO_SUCH_ROW = 4,
     DN_NO_NAME = 5,
     DN_BUFFER_TOO_SMALL = 6,
-    DN_NOT_FOUND = 7
+    DN_NOT_FOUND = 7,
+    DN_TOO_MANY_STEPS = 11
 };
 
 /* Why a string is missing: beside 7 of a string and 5 of a class, method or generic name; else 0. */
@@ -200,14 +222,14 @@ dn_reply dn_generic_name(const uint8_t *tables, size_t tables_len, const uint8_t
                          const uint8_t *blob, size_t blob_len, uint32_t options,
                          uint32_t class_number, uint32_t generic, uint8_t *buf, size_t buf_len);
 
-/* How many base types a class has: those that have a name, the extended type first, then the interfaces. Refusals: 1 to 4. */
+/* How many base types a class has: those that have a name, the extended type first, then the interfaces. Refusals: 1 to 4, 11. */
 dn_reply dn_base_count(const uint8_t *tables, size_t tables_len, const uint8_t *strings, size_t strings_len,
-                       const uint8_t *blob, size_t blob_len, uint32_t options,
+                       const uint8_t *blob, size_t blob_len, uint32_t options, uint64_t *steps,
                        uint32_t class_number);
 
-/* The name of a base type of a class. Refusals: 1 to 4, 6. */
+/* The name of a base type of a class. Refusals: 1 to 4, 6, 11. */
 dn_reply dn_base_name(const uint8_t *tables, size_t tables_len, const uint8_t *strings, size_t strings_len,
-                      const uint8_t *blob, size_t blob_len, uint32_t options,
+                      const uint8_t *blob, size_t blob_len, uint32_t options, uint64_t *steps,
                       uint32_t class_number, uint32_t base, uint8_t *buf, size_t buf_len);
 
 /* How many methods a class has. Refusals: 1 to 4. */
@@ -235,47 +257,48 @@ dn_reply dn_method_generic_name(const uint8_t *tables, size_t tables_len, const 
                                 const uint8_t *blob, size_t blob_len, uint32_t options,
                                 uint32_t class_number, uint32_t method, uint32_t generic, uint8_t *buf, size_t buf_len);
 
-/* The return type of a method, as text. Refusals: 1 to 6. */
+/* The return type of a method, as text. Refusals: 1 to 6, 11. */
 dn_reply dn_return_type(const uint8_t *tables, size_t tables_len, const uint8_t *strings, size_t strings_len,
-                        const uint8_t *blob, size_t blob_len, uint32_t options,
+                        const uint8_t *blob, size_t blob_len, uint32_t options, uint64_t *steps,
                         uint32_t class_number, uint32_t method, uint8_t *buf, size_t buf_len);
 
-/* How many parameters a method has. Refusals: 1 to 4. */
+/* How many parameters a method has. Refusals: 1 to 4, 11. */
 dn_reply dn_param_count(const uint8_t *tables, size_t tables_len, const uint8_t *strings, size_t strings_len,
-                        const uint8_t *blob, size_t blob_len, uint32_t options,
+                        const uint8_t *blob, size_t blob_len, uint32_t options, uint64_t *steps,
                         uint32_t class_number, uint32_t method);
 
-/* The type of a parameter of a method, as text. Refusals: 1 to 6. */
+/* The type of a parameter of a method, as text. Refusals: 1 to 6, 11. */
 dn_reply dn_param_type(const uint8_t *tables, size_t tables_len, const uint8_t *strings, size_t strings_len,
-                       const uint8_t *blob, size_t blob_len, uint32_t options,
+                       const uint8_t *blob, size_t blob_len, uint32_t options, uint64_t *steps,
                        uint32_t class_number, uint32_t method, uint32_t parameter, uint8_t *buf, size_t buf_len);
 
-/* The name of a parameter of a method. Refusals: 1 to 6. */
+/* The name of a parameter of a method. Refusals: 1 to 6, 11. */
 dn_reply dn_param_name(const uint8_t *tables, size_t tables_len, const uint8_t *strings, size_t strings_len,
-                       const uint8_t *blob, size_t blob_len, uint32_t options,
+                       const uint8_t *blob, size_t blob_len, uint32_t options, uint64_t *steps,
                        uint32_t class_number, uint32_t method, uint32_t parameter, uint8_t *buf, size_t buf_len);
 
 /* Any call for a number, by its question: a, b and c are the numbers of that call in its own order, and those that it does not have are
- * ignored. A question that there is not, or one for a name, is refused with 4, after 1, 2 and 3. */
+ * ignored. A question that there is not, or one for a name, is refused with 4, after 1, 2 and 3, and leaves the steps as they are. */
 dn_reply dn_ask_number(const uint8_t *tables, size_t tables_len, const uint8_t *strings, size_t strings_len,
-                       const uint8_t *blob, size_t blob_len, uint32_t options,
+                       const uint8_t *blob, size_t blob_len, uint32_t options, uint64_t *steps,
                        uint32_t question, uint32_t a, uint32_t b, uint32_t c);
 
 /* Any call for a name, by its question, in the same way. */
 dn_reply dn_ask_name(const uint8_t *tables, size_t tables_len, const uint8_t *strings, size_t strings_len,
-                     const uint8_t *blob, size_t blob_len, uint32_t options,
+                     const uint8_t *blob, size_t blob_len, uint32_t options, uint64_t *steps,
                      uint32_t question, uint32_t a, uint32_t b, uint32_t c, uint8_t *buf, size_t buf_len);
 
 /* A piece of the listing: as many whole lines from a cursor on as the buffer holds, and zeros behind them. It is asked for with all 0, then
  * with the cursor of the piece before, until it is done. A buffer that does not hold the next line gets 0 bytes and the same cursor;
- * DN_LONGEST_LINE bytes always suffice. A piece takes at most 65,536 steps, some of which add no line: so it may leave room in a large
- * buffer, or have 0 bytes, and still get on. Any numbers are a cursor, and a place that there is not is the end. A stream that is refused
+ * DN_LONGEST_LINE bytes always suffice. A piece looks at no more than 65,536 places, some of which have no line: so it may leave room in a
+ * large buffer, or have 0 bytes, and still get on. Any numbers are a cursor, and a place that there is not is the end. A stream that is refused
  * has one line, `refused=` and the number.
  *
  * A line is a key, a value and the byte 0x0A. In the value each byte below 0x22, above 0x7E, or equal to 0x25 is written as a percent sign
  * and two upper-case hex digits, every other byte as it stands: so no value ends its line, and no two print alike. A name of more than
  * 4,096 bytes, counted before this writing, is `!`, which no other value is; a missing one is empty. The calls for names give the bytes as
- * they stand.
+ * they stand. A listing allows 1,000,000 steps for each name: a method that counts more has `returns=!` and no lines of parameters, a class
+ * whose base types do has one line `base=!`.
  *
  * The words are there for speed alone: the rows of a class are found by them without a search. Any number of words will do, 0 too, and
  * whatever they hold; the piece is the same, and after the call every word is 0. 19,000 words serve every input of 65,536 bytes. In

@@ -4,10 +4,10 @@
 
    CASES is crates/replay/data/cases: inputs, and for each the text that the listing program prints; that crate's src/main.rt says the form.
    WRONG is the file `wrong` beside it, with texts that are wrong on purpose: each must differ. Each question is asked by its number and by
-   the call's own name, which replay.c holds against the record: for all numbers inside and some outside, in buffers of several lengths. The
-   options say nothing yet, so replies and buffers must be the same for all. Each piece is asked for without lent words and with many, and
-   must be the same. Exit status: 0 all is as it should be, 1 something is not, 2 a
-   file cannot be read. */
+   the call's own name, which replay.c holds against the record: for all numbers inside and some outside, in buffers of several lengths, with
+   an allowance of few steps, of which both must leave the same. The options say nothing yet, so replies, buffers and what is left must be
+   the same for all. Each piece is asked for without lent words and with many, and must be the same. Exit status: 0 all is as it should be,
+   1 something is not, 2 a file cannot be read. */
 #include <stdarg.h>
 #include "calls.h"
 #include "listed.h"
@@ -18,13 +18,15 @@ enum { LARGEST = 1 << 16 }; /* bytes of a buffer */
 
 static const uint32_t words[] = {0, 1, 2, 4, 0x80000000, UINT32_MAX}; /* options, and numbers that a question does not have */
 static const size_t rooms[] = {0, 3, 40, 4096};                       /* bytes of a buffer for a name */
+static const uint64_t few = 10000;                                    /* steps: so that what takes many is refused soon */
 static const uint32_t no_questions[] = {0, 9, 100, 109, 257, 65537, 0x80000001, UINT32_MAX};
 static const uint32_t no_places[] = {13, 256, 65536, UINT32_MAX};
 static const dn_cursor start;
 
 static size_t number; /* of the case, from 0 */
 static struct input in;
-static bytes text; /* its listing */
+static uint64_t left; /* of the allowance of a call */
+static bytes text;    /* its listing */
 static uint8_t buf[LARGEST + 1], other[LARGEST + 1], twin[LARGEST + 1];
 
 /* Counts an answer, and prints what it was about where it is not as it should be. */
@@ -50,23 +52,34 @@ static struct buffer full(uint8_t *at, size_t room, int byte) {
 
 static int same(dn_reply a, dn_reply b) { return a.value == b.value && a.refusal == b.refusal && a.reason == b.reason; }
 
-/* Whether that reply and what it left in `other` are as expected in `buf`. */
-static int as_expected(dn_reply reply, dn_reply expected, size_t room) {
-    return same(reply, expected) && !memcmp(other, buf, room) && other[room] == 0x55;
+static dn_reply ask(const struct call *call, const uint32_t *rows, struct buffer buffer) {
+    left = few;
+    return call->ask(&in, rows, buffer);
+}
+
+static dn_reply ask_by_number(uint32_t question, int is_name, const uint32_t *rows, struct buffer buffer) {
+    left = few;
+    return ask_question(&in, question, is_name, rows, buffer);
+}
+
+/* Whether that reply and what it left in `other`, and of the allowance, are as expected, in `buf`. */
+static int as_expected(dn_reply reply, dn_reply expected, uint64_t expected_left, size_t room) {
+    return same(reply, expected) && left == expected_left && !memcmp(other, buf, room) && other[room] == 0x55;
 }
 
 static void check_reply(const struct call *call, const uint32_t *rows, size_t room) {
     in.options = 0;
-    dn_reply expected = call->ask(&in, rows, full(buf, room, 0xAA));
+    dn_reply expected = ask(call, rows, full(buf, room, 0xAA));
+    uint64_t expected_left = left;
     for (size_t i = 0; i < COUNT(words); i++) {
         uint32_t r[3];
         in.options = words[i];
-        dn_reply reply = call->ask(&in, rows, full(other, room, 0x55));
-        check(as_expected(reply, expected, room), "dn_%s %u %u %u, %zu bytes", call->name, rows[0], rows[1], rows[2], room);
+        dn_reply reply = ask(call, rows, full(other, room, 0x55));
+        check(as_expected(reply, expected, expected_left, room), "dn_%s %u %u %u, %zu bytes", call->name, rows[0], rows[1], rows[2], room);
         if (!call->question) continue;
         for (int k = 0; k < 3; k++) r[k] = k < call->rows ? rows[k] : words[i];
-        reply = ask_question(&in, call->question, call->is_name, r, full(other, room, 0x55));
-        check(as_expected(reply, expected, room), "question %u %u %u %u, %zu bytes", call->question, r[0], r[1], r[2], room);
+        reply = ask_by_number(call->question, call->is_name, r, full(other, room, 0x55));
+        check(as_expected(reply, expected, expected_left, room), "question %u %u %u %u, %zu bytes", call->question, r[0], r[1], r[2], room);
     }
 }
 
@@ -81,7 +94,7 @@ static void each_row(const struct call *call, int depth, uint32_t *rows) {
         return;
     }
     in.options = 0;
-    size_t n = calls[call->counted_by[depth]].ask(&in, rows, full(buf, 0, 0)).value;
+    size_t n = ask(&calls[call->counted_by[depth]], rows, full(buf, 0, 0)).value;
     for (rows[depth] = 0; rows[depth] <= n; rows[depth]++) each_row(call, depth + 1, rows);
     rows[depth] = UINT32_MAX;
     each_row(call, depth + 1, rows);
@@ -91,13 +104,13 @@ static void each_row(const struct call *call, int depth, uint32_t *rows) {
 static void check_refused(uint32_t question, int is_name) {
     static const uint32_t rows[3];
     in.options = 0;
-    size_t refusal = calls[CLASS_COUNT].ask(&in, rows, full(buf, 0, 0)).refusal;
+    size_t refusal = ask(&calls[CLASS_COUNT], rows, full(buf, 0, 0)).refusal;
     dn_reply expected = {0, refusal ? refusal : DN_NO_SUCH_ROW, 0};
     for (size_t i = 0; i < COUNT(words); i++)
         for (size_t k = 0; k < (is_name ? COUNT(rooms) : 1); k++) {
             in.options = words[i];
-            dn_reply reply = ask_question(&in, question, is_name, rows, full(buf, rooms[k], 0xAA));
-            check(same(reply, expected) && zero_from(buf, 0, rooms[k]) && buf[rooms[k]] == 0xAA, "no question %u for a %s, %zu bytes",
+            dn_reply reply = ask_by_number(question, is_name, rows, full(buf, rooms[k], 0xAA));
+            check(same(reply, expected) && left == few && zero_from(buf, 0, rooms[k]) && buf[rooms[k]] == 0xAA, "no question %u for a %s, %zu bytes",
                   question, is_name ? "name" : "number", rooms[k]);
         }
 }
@@ -238,7 +251,7 @@ static void each_case(bytes file, void (*look)(void)) {
     bytes input;
     size_t at = 0;
     for (number = 0; next_case(file, &at, &input, &text); number++)
-        if (open_streams(input, text, &in)) look();
+        if (open_streams(input, text, &in)) in.steps = &left, look();
 }
 
 static void ask_questions(bytes file) { each_case(file, check_questions); }

@@ -42,7 +42,7 @@ static void check_name(const char *key, int call, const uint32_t *rows, uint8_t 
     uint8_t name[LONGEST];
     dn_reply reply = calls[call].ask(&in, rows, (struct buffer){name, LONGEST});
     if (n == 1 && value[0] == '!') {
-        check(reply.refusal == DN_BUFFER_TOO_SMALL, key);
+        check(reply.refusal == DN_BUFFER_TOO_SMALL || reply.refusal == DN_TOO_MANY_STEPS, key);
         return;
     }
     long length = undo(value, n);

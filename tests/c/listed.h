@@ -12,7 +12,7 @@ static int open_streams(bytes input, bytes text, struct input *in) {
     if (text.len == 10 && !memcmp(text.at, "refused=8\n", 10)) return 0;
     if (sscanf((char *)input.at, "tables=%zu\nstrings=%zu\nblob=%zu%n", &t, &s, &b, &head) != 3) return 0;
     const uint8_t *at = input.at + head + 1;
-    *in = (struct input){{at, t}, {at + t, s}, {at + t + s, b}, 0};
+    *in = (struct input){{at, t}, {at + t, s}, {at + t + s, b}, 0, NULL};
     return (size_t)head + 1 + t + s + b == input.len;
 }
 

@@ -1,10 +1,11 @@
 /* The calls of include/dotnet_tables.h, linked as a C program links them, against recorded answers of the Rust:
 
-     replay CALLS WRONG_CALLS WALKS WRONG_WALKS
+     replay CALLS STEPS WRONG_CALLS WALKS WRONG_WALKS
 
-   CALLS is crates/call_vectors/data/cases and WALKS crates/extents_replay/data/cases; those crates' src/main.rt say their forms. The files
-   `wrong` beside them hold answers that are wrong on purpose: each must differ. A name is asked for in buffers of several lengths, full of
-   0xAA before, and every byte is looked at afterwards. Every call is also asked with null pointers of length 0 for each choice of its
+   CALLS and STEPS are crates/call_vectors/data/cases and steps, and WALKS crates/extents_replay/data/cases; those crates' src/main.rt say
+   their forms. The files `wrong` beside them hold answers that are wrong on purpose: each must differ. A name is asked for in buffers of
+   several lengths, full of 0xAA before, and every byte is looked at afterwards; what is left of an allowance is looked at too, and a call
+   that takes one is asked by its name and by its question. Every call is also asked with null pointers of length 0 for each choice of its
    streams and its buffer, which must answer as other pointers of length 0 do. Exit status: 0 all is as it should be, 1 something is not,
    2 a file cannot be read. */
 #include "recorded.h"
@@ -14,27 +15,57 @@ enum { WALKS = 2 };
 
 static bytes tables, strings, blob;
 
-/* The call of that name; `numbers` are a class and what is asked for in it. */
-static int ask(const char *call, const uint32_t *numbers, uint8_t *buf, size_t len, dn_reply *reply) {
-    uint32_t c = numbers[0], m = numbers[1], p = numbers[2];
+/* A call, its numbers, and where it has an allowance that and what is to be left of it. */
+typedef struct question {
+    char call[64];
+    uint32_t numbers[3];
+    int limited;
+    uint64_t allowance, left;
+} question;
+
+/* The call of that name. Those that count steps take an allowance, and no others do. */
+static int ask_by_name(const question *q, uint64_t *steps, uint8_t *buf, size_t len, dn_reply *reply) {
+    uint32_t c = q->numbers[0], m = q->numbers[1], p = q->numbers[2];
     dn_streams s = {tables.at, tables.len, strings.at, strings.len, blob.at, blob.len, 0};
-#define CALL(name, ...) if (!strcmp(call, #name)) return *reply = dn_##name(DN_STREAMS(s) __VA_ARGS__), 1
+#define CALL(name, ...) if (!q->limited && !strcmp(q->call, #name)) return *reply = dn_##name(DN_STREAMS(s) __VA_ARGS__), 1
+#define COUNTING(name, ...) if (q->limited && !strcmp(q->call, #name)) return *reply = dn_##name(DN_STREAMS(s), steps, __VA_ARGS__), 1
     CALL(class_count, );
     CALL(class_flags, , c);
     CALL(class_name, , c, buf, len);
     CALL(generic_count, , c);
     CALL(generic_name, , c, m, buf, len);
-    CALL(base_count, , c);
-    CALL(base_name, , c, m, buf, len);
+    COUNTING(base_count, c);
+    COUNTING(base_name, c, m, buf, len);
     CALL(method_count, , c);
     CALL(method_flags, , c, m);
     CALL(method_name, , c, m, buf, len);
     CALL(method_generic_count, , c, m);
     CALL(method_generic_name, , c, m, p, buf, len);
-    CALL(return_type, , c, m, buf, len);
-    CALL(param_count, , c, m);
-    CALL(param_type, , c, m, p, buf, len);
-    CALL(param_name, , c, m, p, buf, len);
+    COUNTING(return_type, c, m, buf, len);
+    COUNTING(param_count, c, m);
+    COUNTING(param_type, c, m, p, buf, len);
+    COUNTING(param_name, c, m, p, buf, len);
+    return 0;
+}
+
+/* The same by its question, which takes an allowance for every call. */
+static int ask_by_question(const question *q, uint64_t *steps, uint8_t *buf, size_t len, dn_reply *reply) {
+    static const struct { const char *call; uint32_t number; } questions[] = {
+        {"class_count", DN_ASK_CLASS_COUNT}, {"class_flags", DN_ASK_CLASS_FLAGS}, {"generic_count", DN_ASK_GENERIC_COUNT},
+        {"base_count", DN_ASK_BASE_COUNT}, {"method_count", DN_ASK_METHOD_COUNT}, {"method_flags", DN_ASK_METHOD_FLAGS},
+        {"method_generic_count", DN_ASK_METHOD_GENERIC_COUNT}, {"param_count", DN_ASK_PARAM_COUNT}, {"class_name", DN_ASK_CLASS_NAME},
+        {"generic_name", DN_ASK_GENERIC_NAME}, {"base_name", DN_ASK_BASE_NAME}, {"method_name", DN_ASK_METHOD_NAME},
+        {"method_generic_name", DN_ASK_METHOD_GENERIC_NAME}, {"return_type", DN_ASK_RETURN_TYPE}, {"param_type", DN_ASK_PARAM_TYPE},
+        {"param_name", DN_ASK_PARAM_NAME}};
+    const uint32_t *n = q->numbers;
+    dn_streams s = {tables.at, tables.len, strings.at, strings.len, blob.at, blob.len, 0};
+    for (size_t i = 0; i < sizeof questions / sizeof *questions; i++) {
+        uint32_t number = questions[i].number;
+        if (strcmp(q->call, questions[i].call)) continue;
+        *reply = number > 100 ? dn_ask_name(DN_STREAMS(s), steps, number, n[0], n[1], n[2], buf, len)
+                              : dn_ask_number(DN_STREAMS(s), steps, number, n[0], n[1], n[2]);
+        return 1;
+    }
     return 0;
 }
 
@@ -57,64 +88,84 @@ static dn_reply reply_in(const char *answer) {
     return (dn_reply){0, refusal, *end == '.' ? strtoul(end + 1, NULL, 10) : 0};
 }
 
-/* Whether a name is answered right in a buffer of that length, or refused so. */
-static int room_agrees(const char *call, const uint32_t *numbers, dn_reply refused, bytes name, size_t room) {
+/* The ways to ask: by its name, and where it has an allowance by its question too; a call that counts nothing then by that alone. */
+typedef int (*way)(const question *q, uint64_t *steps, uint8_t *buf, size_t len, dn_reply *reply);
+
+static int is_counting(const char *call) {
+    static const char *const counting[] = {"base_count", "base_name", "return_type", "param_count", "param_type", "param_name"};
+    for (size_t i = 0; i < sizeof counting / sizeof *counting; i++)
+        if (!strcmp(call, counting[i])) return 1;
+    return 0;
+}
+
+static int is_asked(const question *q, way by) { return by == ask_by_name ? !q->limited || is_counting(q->call) : q->limited; }
+
+static const way ways[] = {ask_by_name, ask_by_question};
+
+/* Whether a call is answered so in a buffer of that length, with nothing behind the name, and leaves so much. */
+static int room_agrees(const question *q, way by, dn_reply refused, bytes name, size_t room) {
     uint8_t *buf = malloc(room + 1);
+    uint64_t steps = q->allowance;
     dn_reply reply, expected = room < name.len ? (dn_reply){0, DN_BUFFER_TOO_SMALL, 0} : (dn_reply){name.len, 0, 0};
     if (!buf) exit(2);
     memset(buf, 0xAA, room + 1);
     if (refused.refusal) expected = refused;
-    int well = ask(call, numbers, buf, room, &reply) && same(reply, expected) && !memcmp(buf, name.at, expected.value)
+    int well = by(q, &steps, buf, room, &reply) && same(reply, expected) && steps == q->left && !memcmp(buf, name.at, expected.value)
         && zero_from(buf, expected.value, room) && buf[room] == 0xAA;
     free(buf);
     return well;
 }
 
-static int name_agrees(const char *call, const uint32_t *numbers, const char *answer) {
+static int name_agrees(const question *q, way by, const char *answer) {
     dn_reply refused = *answer == '!' ? reply_in(answer) : (dn_reply){0, 0, 0};
     bytes name = read_hex(refused.refusal ? "" : answer);
     size_t few = name.len < 64 ? name.len : 2;
     int well = 1;
-    for (size_t room = 0; room < few; room++) well &= room_agrees(call, numbers, refused, name, room);
-    for (size_t room = name.len < 2 ? 0 : name.len - 1; room <= name.len + 2; room++) well &= room_agrees(call, numbers, refused, name, room);
+    for (size_t room = 0; room < few; room++) well &= room_agrees(q, by, refused, name, room);
+    for (size_t room = name.len < 2 ? 0 : name.len - 1; room <= name.len + 2; room++) well &= room_agrees(q, by, refused, name, room);
     free(name.at);
     return well;
 }
 
-typedef struct question {
-    char call[64];
-    uint32_t numbers[3];
-} question;
+static int number_agrees(const question *q, way by, const char *answer) {
+    uint64_t steps = q->allowance;
+    dn_reply reply;
+    return by(q, &steps, NULL, 0, &reply) && same(reply, reply_in(answer)) && steps == q->left;
+}
 
-/* Reads `CALL NUMBERS` from a line that goes on with `= ANSWER`. */
+/* Reads `CALL NUMBERS`, and where they are there `/ALLOWANCE LEFT`, from a line that goes on with `= ANSWER`. */
 static question question_in(const char *line) {
-    question q = {"", {0, 0, 0}};
+    question q = {"", {0, 0, 0}, 0, 0, 0};
     if (sscanf(line, "%63s", q.call) != 1) return q;
-    const char *at = line + strlen(q.call);
-    for (int i = 0; i < 3 && at[1] != '='; i++) q.numbers[i] = (uint32_t)strtoul(at, (char **)&at, 10);
+    char *at = (char *)line + strlen(q.call), *slash = strchr(line, '/');
+    for (int i = 0; i < 3 && at[1] != '=' && at[1] != '/'; i++) q.numbers[i] = (uint32_t)strtoul(at, &at, 10);
+    if (slash) q.limited = 1, q.allowance = strtoull(slash + 1, &at, 10), q.left = strtoull(at, NULL, 10);
     return q;
 }
 
-/* `CALL NUMBERS = ANSWER`; an answer is a number, a name in hex, or a refusal. */
+/* An answer is a number, a name in hex, or a refusal. */
 static int answer_agrees(const char *line) {
     question q = question_in(line);
     const char *answer = strchr(line, '=');
-    dn_reply reply;
     answer += answer[1] == ' ' ? 2 : 1;
-    if (strstr(q.call, "_name") || strstr(q.call, "_type")) return name_agrees(q.call, q.numbers, answer);
-    return ask(q.call, q.numbers, NULL, 0, &reply) && same(reply, reply_in(answer));
+    int is_name = strstr(q.call, "_name") || strstr(q.call, "_type"), well = 1;
+    for (int i = 0; i < 2; i++)
+        if (is_asked(&q, ways[i])) well &= is_name ? name_agrees(&q, ways[i], answer) : number_agrees(&q, ways[i], answer);
+    return well;
 }
 
-/* The reply where what `empty` names has length 0 and is at `spot`: bit 0 the tables, 1 the strings, 2 the blob, 3 the buffer. */
-static dn_reply ask_with_empty(const question *q, unsigned empty, uint8_t *spot) {
+/* The reply where what `empty` names has length 0 and is at `spot`, and what is left: bit 0 the tables, 1 the strings, 2 the blob, 3 the
+   buffer. */
+static dn_reply ask_with_empty(const question *q, unsigned empty, uint8_t *spot, uint64_t *steps) {
     bytes kept[] = {tables, strings, blob}, none = {spot, 0};
     uint8_t room[16];
     dn_reply reply = {0, 0, 0};
+    *steps = q->allowance;
     if (empty & 1) tables = none;
     if (empty & 2) strings = none;
     if (empty & 4) blob = none;
-    if (empty & 8) ask(q->call, q->numbers, spot, 0, &reply);
-    else ask(q->call, q->numbers, room, sizeof room, &reply);
+    if (empty & 8) ask_by_name(q, steps, spot, 0, &reply);
+    else ask_by_name(q, steps, room, sizeof room, &reply);
     tables = kept[0], strings = kept[1], blob = kept[2];
     return reply;
 }
@@ -122,10 +173,11 @@ static dn_reply ask_with_empty(const question *q, unsigned empty, uint8_t *spot)
 /* Whether null pointers of length 0 are answered as other pointers of length 0 are. */
 static int nulls_agree(const char *line) {
     question q = question_in(line);
+    uint64_t left, left_by_spot;
     uint8_t spot = 0xAA;
     for (unsigned empty = 1; empty < 16; empty++) {
-        dn_reply by_null = ask_with_empty(&q, empty, NULL), by_spot = ask_with_empty(&q, empty, &spot);
-        if (!same(by_null, by_spot) || spot != 0xAA) return 0;
+        dn_reply by_null = ask_with_empty(&q, empty, NULL, &left), by_spot = ask_with_empty(&q, empty, &spot, &left_by_spot);
+        if (!same(by_null, by_spot) || left != left_by_spot || spot != 0xAA) return 0;
     }
     return 1;
 }
@@ -231,14 +283,15 @@ static void nulls(void) {
 }
 
 int main(int count, char **words) {
-    if (count != 5) return fprintf(stderr, "usage: replay CALLS WRONG_CALLS WALKS WRONG_WALKS\n"), 2;
+    if (count != 6) return fprintf(stderr, "usage: replay CALLS STEPS WRONG_CALLS WALKS WRONG_WALKS\n"), 2;
     lookups(), nulls();
     int well = report("lookups, and what takes no class by null pointers");
     well &= replay(words[1], replay_calls, "calls", 0);
-    well &= replay(words[2], replay_calls, "calls", 1);
+    well &= replay(words[2], replay_calls, "calls with allowances around their counts", 0);
+    well &= replay(words[3], replay_calls, "calls", 1);
     well &= replay(words[1], replay_nulls, "calls by null pointers", 0);
-    well &= replay(words[3], replay_walks, "walks", 0);
-    well &= replay(words[4], replay_walks, "walks", 1);
+    well &= replay(words[4], replay_walks, "walks", 0);
+    well &= replay(words[5], replay_walks, "walks", 1);
     free(tables.at), free(strings.at), free(blob.at);
     return well ? 0 : 1;
 }

@@ -1,10 +1,10 @@
-//! The same calls as a Rust program links them, against the recorded answers of crates/call_vectors/data/cases, and against those of the
-//! file `wrong` beside it, which are wrong on purpose, so that each must differ:
+//! The same calls as a Rust program links them, against the recorded answers of crates/call_vectors/data/cases and steps, and against those
+//! of the file `wrong` beside them, which are wrong on purpose, so that each must differ:
 //!
-//!     replay CALLS WRONG_CALLS
+//!     replay CALLS STEPS WRONG_CALLS
 //!
-//! A name is asked for in a buffer of its length and in one that is a byte longer. Exit status: 0 all is as it should be, 1 something is
-//! not.
+//! A name is asked for in a buffer of its length and in one that is a byte longer. A call that counts nothing and has an allowance is not
+//! asked: its question alone takes one, which the C program asks. Exit status: 0 all is as it should be, 1 something is not.
 use std::{env, fs, process};
 
 #[repr(C)]
@@ -19,20 +19,25 @@ struct DnReply {
 const BASE: u32 = 0;
 
 macro_rules! calls {
-    ($($name:ident($($number:ident),*) $($buf:ident)?;)*) => {
+    ($($name:ident($($number:ident),*) $(within $steps:ident)? $(in $buf:ident)?;)*) => {
         extern "C" {
             $(fn $name(tables: *const u8, tables_len: usize, strings: *const u8, strings_len: usize, blob: *const u8, blob_len: usize,
-                options: u32 $(, $number: u32)* $(, $buf: *mut u8, buf_len: usize)?) -> DnReply;)*
+                options: u32 $(, $steps: *mut u64)? $(, $number: u32)* $(, $buf: *mut u8, buf_len: usize)?) -> DnReply;)*
         }
-        /// The call of that name, with a buffer if it takes one.
-        fn ask(call: &str, s: &[Vec<u8>; 3], n: &[u32], buf: &mut [u8]) -> Option<DnReply> {
+        /// The call of that name, with what is left of an allowance if it takes one, and a buffer if it takes one.
+        fn ask(call: &str, s: &[Vec<u8>; 3], n: &[u32], left: &mut u64, buf: &mut [u8]) -> Option<DnReply> {
             let mut rest = n.iter().copied();
             $(if stringify!($name).strip_prefix("dn_") == Some(call) {
-                // SAFETY: each slice is passed as its pointer and its length, and the buffer is lent to this call alone
+                // SAFETY: each slice is passed as its pointer and its length, and the number and the buffer are lent to this call alone
                 return Some(unsafe { $name(s[0].as_ptr(), s[0].len(), s[1].as_ptr(), s[1].len(), s[2].as_ptr(), s[2].len(), BASE
-                    $(, { let $number = rest.next().unwrap_or(0); $number })* $(, { let $buf = buf.as_mut_ptr(); $buf }, buf.len())?) });
+                    $(, { let $steps: *mut u64 = left; $steps })? $(, { let $number = rest.next().unwrap_or(0); $number })*
+                    $(, { let $buf = buf.as_mut_ptr(); $buf }, buf.len())?) });
             })*
             None
+        }
+        /// Whether it takes an allowance.
+        fn is_counting(call: &str) -> bool {
+            [$($((stringify!($name), stringify!($steps)),)?)*].iter().any(|(name, _)| name.strip_prefix("dn_") == Some(call))
         }
     };
 }
@@ -40,20 +45,20 @@ macro_rules! calls {
 calls! {
     dn_class_count();
     dn_class_flags(class);
-    dn_class_name(class) buf;
+    dn_class_name(class) in buf;
     dn_generic_count(class);
-    dn_generic_name(class, generic) buf;
-    dn_base_count(class);
-    dn_base_name(class, base) buf;
+    dn_generic_name(class, generic) in buf;
+    dn_base_count(class) within steps;
+    dn_base_name(class, base) within steps in buf;
     dn_method_count(class);
     dn_method_flags(class, method);
-    dn_method_name(class, method) buf;
+    dn_method_name(class, method) in buf;
     dn_method_generic_count(class, method);
-    dn_method_generic_name(class, method, generic) buf;
-    dn_return_type(class, method) buf;
-    dn_param_count(class, method);
-    dn_param_type(class, method, parameter) buf;
-    dn_param_name(class, method, parameter) buf;
+    dn_method_generic_name(class, method, generic) in buf;
+    dn_return_type(class, method) within steps in buf;
+    dn_param_count(class, method) within steps;
+    dn_param_type(class, method, parameter) within steps in buf;
+    dn_param_name(class, method, parameter) within steps in buf;
 }
 
 fn from_hex(text: &str) -> Vec<u8> {
@@ -67,23 +72,42 @@ fn refusal_in(answer: &str) -> (usize, usize) {
     (number.parse().unwrap(), reason.parse().unwrap())
 }
 
-fn agrees(line: &str, streams: &[Vec<u8>; 3]) -> bool {
+/// The numbers of a line, and its allowance and what is to be left of it: `NUMBERS` or `NUMBERS /ALLOWANCE LEFT`.
+fn numbers_in<'a>(words: impl Iterator<Item = &'a str>) -> (Vec<u32>, Option<(u64, u64)>) {
+    let words: Vec<&str> = words.collect();
+    let (numbers, steps) = words.split_at(words.iter().position(|word| word.starts_with('/')).unwrap_or(words.len()));
+    let within = match steps {
+        [allowance, left] => Some((allowance[1..].parse().unwrap(), left.parse().unwrap())),
+        _ => None,
+    };
+    (numbers.iter().map(|n| n.parse().unwrap()).collect(), within)
+}
+
+/// Nothing for a line that is not asked here.
+fn agrees(line: &str, streams: &[Vec<u8>; 3]) -> Option<bool> {
     let (asked, answer) = line.split_once('=').unwrap();
     let (mut words, answer) = (asked.split_whitespace(), answer.trim());
     let call = words.next().unwrap();
-    let numbers: Vec<u32> = words.map(|n| n.parse().unwrap()).collect();
+    let (numbers, within) = numbers_in(words);
+    if within.is_some() != is_counting(call) {
+        return if within.is_some() { None } else { Some(false) };
+    }
+    let (allowance, left) = within.unwrap_or((0, 0));
     let (refusal, reason) = refusal_in(answer);
+    let agrees_in = |buf: &mut [u8], value: usize| {
+        let mut steps = allowance;
+        ask(call, streams, &numbers, &mut steps, buf) == Some(DnReply { value, refusal, reason }) && steps == left
+    };
     if !call.ends_with("_name") && !call.ends_with("_type") {
-        let value = if refusal == 0 { answer.parse().unwrap() } else { 0 };
-        return ask(call, streams, &numbers, &mut []) == Some(DnReply { value, refusal, reason });
+        return Some(agrees_in(&mut [], if refusal == 0 { answer.parse().unwrap() } else { 0 }));
     }
     let name = if refusal == 0 { from_hex(answer) } else { Vec::new() };
-    (0..2).all(|more| {
+    Some((0..2).all(|more| {
         let mut buf = vec![0xAA; name.len() + more];
         let mut expected = name.clone();
         expected.resize(buf.len(), 0);
-        ask(call, streams, &numbers, &mut buf) == Some(DnReply { value: name.len(), refusal, reason }) && buf == expected
-    })
+        agrees_in(&mut buf, name.len()) && buf == expected
+    }))
 }
 
 /// Whether there are answers and all are as they should be.
@@ -96,7 +120,7 @@ fn replay(path: &str, wrong: bool) -> bool {
             streams[at] = from_hex(line.split_once(' ').unwrap().1);
             continue;
         }
-        let agrees = agrees(line, &streams);
+        let Some(agrees) = agrees(line, &streams) else { continue };
         *(if agrees { &mut agreed } else { &mut differed }) += 1;
         if agrees == wrong {
             println!("FAIL  {line}");
@@ -108,7 +132,7 @@ fn replay(path: &str, wrong: bool) -> bool {
 
 fn main() {
     let paths: Vec<String> = env::args().skip(1).collect();
-    let [calls, wrong_calls] = &paths[..] else { panic!("usage: replay CALLS WRONG_CALLS") };
-    let well = replay(calls, false) & replay(wrong_calls, true);
+    let [calls, steps, wrong_calls] = &paths[..] else { panic!("usage: replay CALLS STEPS WRONG_CALLS") };
+    let well = replay(calls, false) & replay(steps, false) & replay(wrong_calls, true);
     process::exit(if well { 0 } else { 1 });
 }

@@ -1,11 +1,11 @@
 /* How much stack each call takes, for many inputs in one run:
 
-     stack ROOM
+     stack ROOM STEPS
 
    Standard input holds inputs as the listing program has them, but of any length, each after a 4-byte little-endian length. Standard
    output gets for each a text after its length in the same form: for every call a line with its name and the bytes of stack that it took.
-   It is asked for the first class, method, parameter and so on, on a thread with a stack of ROOM bytes, all 0 before: what it took reaches
-   down to the lowest byte that is not 0 afterwards. Calls by their questions have two lines, ask_number and ask_name, with what the worst
+   It is asked for the first class, method, parameter and so on, with an allowance of STEPS, on a thread with a stack of ROOM bytes, all 0
+   before: what it took reaches down to the lowest byte that is not 0 afterwards. Calls by their questions have two lines, ask_number and ask_name, with what the worst
    question took, and the first piece of the listing has one, with what it took at worst, without lent words or with many; the type-name
    section has the last. tests/stack reads the lines. */
 #define _GNU_SOURCE
@@ -30,16 +30,25 @@ static uint8_t lent[PIECE];
 static uint32_t work[WORDS];
 static char *stack, *top;
 static size_t room;
+static uint64_t allowance, left;
+
+/* The input, with the whole allowance. */
+static const struct input *whole(void) {
+    left = allowance;
+    input.steps = &left;
+    return &input;
+}
 
 static void *ask_call(void *none) {
     top = __builtin_frame_address(0);
-    call->ask(&input, first, (struct buffer){ lent, NAME });
+    call->ask(whole(), first, (struct buffer){ lent, NAME });
     return none;
 }
 
 static void ask_questions(int is_name) {
     for (const struct call *each = calls; each < calls + CALLS; each++)
-        if (each->question && each->is_name == is_name) ask_question(&input, each->question, is_name, first, (struct buffer){ lent, NAME });
+        if (each->question && each->is_name == is_name)
+            ask_question(whole(), each->question, is_name, first, (struct buffer){ lent, NAME });
 }
 
 static void *ask_numbers(void *none) {
@@ -93,7 +102,9 @@ static size_t put_line(char *to, const char *name, void *(*taking)(void *)) {
 
 int main(int argc, char **argv) {
     uint8_t *data;
-    room = argc == 2 ? strtoull(argv[1], 0, 10) : 0;
+    if (argc != 3) fail("two numbers are needed");
+    room = strtoull(argv[1], 0, 10);
+    allowance = strtoull(argv[2], 0, 10);
     make_stack();
     while ((data = read_input(&input))) {
         char text[(CALLS + OTHERS) * LINE];

@@ -32,16 +32,23 @@ static void lend(size_t n) {
     if (!(lent.at = realloc(lent.at, lent.length = n))) abort();
 }
 
+/* With as many steps as there can be. */
+static dn_reply ask(int call, const uint32_t *rows, struct buffer buffer) {
+    uint64_t steps = UINT64_MAX;
+    input.steps = &steps;
+    return calls[call].ask(&input, rows, buffer);
+}
+
 static void put_type(int call, const uint32_t *rows) {
     dn_reply reply;
-    for (lend(FIRST_ROOM); (reply = calls[call].ask(&input, rows, lent)).refusal == DN_BUFFER_TOO_SMALL;) lend(8 * lent.length);
+    for (lend(FIRST_ROOM); (reply = ask(call, rows, lent)).refusal == DN_BUFFER_TOO_SMALL;) lend(8 * lent.length);
     if (reply.refusal && reply.refusal != DN_NO_NAME) fail("a type that should be there is refused");
     put_number(reply.refusal ? MISSING : (uint32_t)reply.value);
     put(lent.at, reply.value);
 }
 
 static uint32_t count(int call, const uint32_t *rows) {
-    dn_reply reply = calls[call].ask(&input, rows, (struct buffer){ 0, 0 });
+    dn_reply reply = ask(call, rows, (struct buffer){ 0, 0 });
     return reply.refusal ? 0 : (uint32_t)reply.value;
 }
 

@@ -11,11 +11,15 @@ enum { WALK_STOP, WALK_STOP_BY_TABLE, CLASS_COUNT, GENERIC_COUNT, BASE_COUNT, ME
 
 enum { KINDS = 64 };    /* of tables */
 enum { WORDS = 19000 }; /* lent to a listing, as many as serve every input of 65,536 bytes */
+enum { LISTED = 1000000 }; /* steps that a listing allows for a name */
 
 struct bytes { const uint8_t *at; size_t length; };
 struct buffer { uint8_t *at; size_t length; };
 struct words { uint32_t *at; size_t length; };
-struct input { struct bytes tables, strings, blob; uint32_t options; };
+
+/* The streams and the options; and what is left of an allowance, for the calls that count steps and for the questions: a null pointer allows
+   each of them what a listing does. */
+struct input { struct bytes tables, strings, blob; uint32_t options; uint64_t *steps; };
 
 struct call {
     const char *name;
@@ -32,9 +36,14 @@ struct call {
 #define ROWS2 ROWS1, r[1]
 #define ROWS3 ROWS2, r[2]
 #define BUFFER buffer.at, buffer.length
+#define LIMITED STREAMS, in->steps ? in->steps : &listed
+#define LIMITED1 LIMITED, r[0]
+#define LIMITED2 LIMITED1, r[1]
+#define LIMITED3 LIMITED2, r[2]
 #define FORM(name, ...) \
     static dn_reply ask_##name(const struct input *in, const uint32_t *r, struct buffer buffer) { \
-        (void)r, (void)buffer; \
+        uint64_t listed = LISTED; \
+        (void)r, (void)buffer, (void)listed; \
         return dn_##name(__VA_ARGS__); \
     }
 
@@ -42,24 +51,31 @@ FORM(walk_stop, TABLES, in->options)
 FORM(walk_stop_by_table, TABLES, in->options)
 FORM(class_count, STREAMS)
 FORM(generic_count, ROWS1)
-FORM(base_count, ROWS1)
+FORM(base_count, LIMITED1)
 FORM(method_count, ROWS1)
 FORM(method_generic_count, ROWS2)
-FORM(param_count, ROWS2)
+FORM(param_count, LIMITED2)
 FORM(class_flags, ROWS1)
 FORM(method_flags, ROWS2)
 FORM(class_name, ROWS1, BUFFER)
 FORM(generic_name, ROWS2, BUFFER)
-FORM(base_name, ROWS2, BUFFER)
+FORM(base_name, LIMITED2, BUFFER)
 FORM(method_name, ROWS2, BUFFER)
 FORM(method_generic_name, ROWS3, BUFFER)
-FORM(return_type, ROWS2, BUFFER)
-FORM(param_type, ROWS3, BUFFER)
-FORM(param_name, ROWS3, BUFFER)
+FORM(return_type, LIMITED2, BUFFER)
+FORM(param_type, LIMITED3, BUFFER)
+FORM(param_name, LIMITED3, BUFFER)
 
 /* A call by its question; the numbers that it does not have may be any. */
 static inline dn_reply ask_question(const struct input *in, uint32_t question, int is_name, const uint32_t *r, struct buffer buffer) {
-    return is_name ? dn_ask_name(STREAMS, question, r[0], r[1], r[2], BUFFER) : dn_ask_number(STREAMS, question, r[0], r[1], r[2]);
+    uint64_t listed = LISTED;
+    return is_name ? dn_ask_name(LIMITED, question, r[0], r[1], r[2], BUFFER) : dn_ask_number(LIMITED, question, r[0], r[1], r[2]);
+}
+
+/* Whether a question counts steps. */
+static inline int is_counting(uint32_t question) {
+    return question == DN_ASK_BASE_COUNT || question == DN_ASK_BASE_NAME || question == DN_ASK_RETURN_TYPE || question == DN_ASK_PARAM_COUNT
+        || question == DN_ASK_PARAM_TYPE || question == DN_ASK_PARAM_NAME;
 }
 
 /* The extent of a kind's table, by row sizes that are added up or by the table of them. */

@@ -4,8 +4,8 @@
                                    and 0xFF: one reply, and the same bytes afterwards, also by its question; and the type-name section, with
                                    as many bytes and as many offsets
      harness inputs SEEDS N SEED   N inputs, made from the seeds by mutation or from nothing: every call, with numbers inside and outside,
-                                   by its name and by its question and with any options; questions that there are not; pieces of the
-                                   listing from anywhere, by lent words of any number and content; and the type-name section, in buffers of
+                                   by its name and by its question, with any options and any allowance of steps, of which both leave the
+                                   same; questions that there are not; pieces of the listing from anywhere, by lent words of any number and content; and the type-name section, in buffers of
                                    any lengths and of four fillings, beside the one that the names of the classes make
 
    SEEDS is a file of inputs of the listing program, each after a 4-byte little-endian length. Every stream ends where memory ends, the
@@ -73,6 +73,7 @@ static int are_unchanged(void) {
 static unsigned long asked, wrong, slow;
 static struct current { const char *name; uint32_t numbers[4]; size_t room, words; } current;
 static volatile sig_atomic_t ticks, armed;
+static uint64_t allowance = LISTED, left; /* of every call for an input, so that its replies can be compared; and what the last one left */
 static sigjmp_buf too_long;
 
 static void save_input(const char *why) {
@@ -91,8 +92,8 @@ static void save_input(const char *why) {
 static void report(const char *what) {
     if (wrong++ < 20) {
         const uint32_t *n = current.numbers;
-        fprintf(stderr, "wrong: %s %u %u %u %u, options %#x, %zu bytes, %zu words: %s\n", current.name, n[0], n[1], n[2], n[3],
-                input.options, current.room, current.words, what);
+        fprintf(stderr, "wrong: %s %u %u %u %u, options %#x, %zu bytes, %zu words, %llu of %llu steps: %s\n", current.name, n[0], n[1], n[2],
+                n[3], input.options, current.room, current.words, (unsigned long long)left, (unsigned long long)allowance, what);
         save_input("wrong");
     }
 }
@@ -122,7 +123,14 @@ static void catch_signals(void) {
 
 /* ---- asking */
 
-static void begin(struct current next) { current = next, asked++, ticks = 0, armed = 1; }
+static void begin(struct current next) { current = next, asked++, ticks = 0, armed = 1, left = allowance, input.steps = &left; }
+
+/* All is left where nothing is counted, and of 1 to 4; nothing after 11, which is for what counts; and never more than there was. */
+static void look_at_steps(uint32_t question, dn_reply reply) {
+    int is_whole = !is_counting(question) || (reply.refusal && reply.refusal <= DN_NO_SUCH_ROW);
+    if (reply.refusal == DN_TOO_MANY_STEPS ? left || !is_counting(question) : is_whole ? left != allowance : left > allowance)
+        report("steps that are left so");
+}
 
 /* A reason, one of three, stands beside 5 of a class, method or generic name, and beside nothing else. */
 static int reason_fits(int call, dn_reply reply) {
@@ -136,6 +144,7 @@ static dn_reply ask(int call, const uint32_t *r, struct buffer buffer) {
     dn_reply reply = calls[call].ask(&input, r, buffer);
     armed = 0;
     if (!reason_fits(call, reply)) report("a reason that does not belong there, or none where one does");
+    look_at_steps(calls[call].question, reply);
     return reply;
 }
 
@@ -181,14 +190,16 @@ static int same(dn_reply a, dn_reply b) { return a.refusal == b.refusal && a.val
 
 static uint8_t seen[ROOM]; /* what a buffer had after a call */
 
-/* A question must have that reply, and leave the bytes that were seen. */
+/* A question must have that reply, and leave the bytes that were seen, and as many steps as the call before it. */
 static void check_question(uint32_t question, int is_name, const uint32_t *r, size_t length, dn_reply expected) {
+    uint64_t expected_left = expected.refusal && expected.refusal <= DN_NO_SUCH_ROW ? allowance : left;
     struct buffer buffer = buffer_of(length, 0x55);
     begin((struct current){ is_name ? "ask_name" : "ask_number", { question, r[0], r[1], r[2] }, length, 0 });
     dn_reply reply = ask_question(&input, question, is_name, r, buffer);
     armed = 0;
     look_at(buffer, is_name ? reply.value : 0);
     if (!same(reply, expected)) report("another reply by the question");
+    else if (left != expected_left) report("other steps by the question");
     else if (memcmp(buffer.at, seen, length)) report("other bytes by the question");
 }
 
@@ -449,6 +460,8 @@ static uint32_t number_near(uint64_t n) { return below(8) ? (uint32_t)below(n + 
 
 static uint32_t some_options(void) { return (const uint32_t[]){ (uint32_t)chance(), 0xFFFFFFFF, 1u << below(32) }[below(3)]; }
 
+static uint64_t some_allowance(void) { return below(4) ? LISTED : (const uint64_t[]){ 0, below(8), below(100), below(100000) }[below(4)]; }
+
 static size_t some_length(void) { return (const size_t[]){ below(3), below(24), below(24), below(200), 4096 }[below(5)]; }
 
 /* The call's question, with numbers by chance where it has none. */
@@ -476,7 +489,8 @@ static void check_call(int call, size_t refusal, int out) {
     }
     if (!same(reply, again)) report("another reply the second time");
     int may_fail = calls[call].is_name && (reply.refusal == DN_NO_NAME || reply.refusal == DN_BUFFER_TOO_SMALL);
-    if (refusal ? reply.refusal != refusal : inside ? reply.refusal && !may_fail : reply.refusal != DN_NO_SUCH_ROW)
+    int is_over = reply.refusal == DN_TOO_MANY_STEPS && is_counting(calls[call].question);
+    if (refusal ? reply.refusal != refusal : is_over ? 0 : inside ? reply.refusal && !may_fail : reply.refusal != DN_NO_SUCH_ROW)
         report("a refusal that does not belong there, or none where one does");
     if (calls[call].question) check_with_junk(call, rows, length, reply);
     input.options = 0;
@@ -623,7 +637,7 @@ static void run_inputs(unsigned long times) {
     make_anything();
     for (left = times; left; left--) {
         if (sigsetjmp(too_long, 1)) { slow++, save_input("slow"); continue; }
-        make_input(), place();
+        make_input(), place(), allowance = some_allowance();
         dn_reply opened = ask(CLASS_COUNT, (const uint32_t[3]){ 0, 0, 0 }, no_buffer);
         if (opened.refusal > DN_TOO_MANY_ROWS) report("a refusal that opening does not have");
         check_walk(opened.refusal);

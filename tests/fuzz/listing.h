@@ -42,18 +42,20 @@ static void put_value(struct listing *to, const uint8_t *value, size_t n) {
     }
 }
 
-/* A line with a name: 5 is the key alone, 6 a name that is too long. */
+/* A line with a name: 5 is the key alone, 6 a name that is too long, 11 one that takes too many steps. */
 static void put_name(struct listing *to, const char *key, int call, const uint32_t *r) {
     uint8_t value[LONGEST];
     dn_reply reply = calls[call].ask(to->in, r, (struct buffer){ value, sizeof value });
     put(to, key, strlen(key));
-    if (reply.refusal == DN_BUFFER_TOO_SMALL) put(to, "!", 1);
+    if (reply.refusal == DN_BUFFER_TOO_SMALL || reply.refusal == DN_TOO_MANY_STEPS) put(to, "!", 1);
     if (!reply.refusal) put_value(to, value, reply.value);
     put(to, "\n", 1);
 }
 
+/* Names that take too many steps have one line, which is that of the first. */
 static void put_names(struct listing *to, const char *key, int counts, int call, uint32_t *r, int place) {
-    uint64_t n = number_of(to, counts, r);
+    dn_reply count = calls[counts].ask(to->in, r, (struct buffer){ 0, 0 });
+    uint64_t n = count.refusal == DN_TOO_MANY_STEPS ? 1 : count.value;
     for (r[place] = 0; r[place] < n; r[place]++) put_name(to, key, call, r);
     r[place] = 0;
 }
@@ -109,7 +111,7 @@ static int open_input(const uint8_t *data, size_t n, struct input *in) {
     size_t t, s, b;
     if (n > MOST || !(at = number_line(at, end, "tables=", &t)) || !(at = number_line(at, end, "strings=", &s))) return 0;
     if (!(at = number_line(at, end, "blob=", &b)) || (size_t)(end - at) != t + s + b) return 0;
-    *in = (struct input){ { at, t }, { at + t, s }, { at + t + s, b }, 0 };
+    *in = (struct input){ { at, t }, { at + t, s }, { at + t + s, b }, 0, 0 };
     return 1;
 }
 

@@ -1,5 +1,7 @@
-"""What the program call_vectors reads: blocks of three streams and the answers of the public calls, made of the oracle's record."""
+"""What the program call_vectors reads: blocks of three streams and the answers of the public calls, made of the oracle's record and of the
+steps that it counts."""
 
+import math
 import os
 import sys
 
@@ -10,7 +12,11 @@ from assembly import GENERIC_PARAM, METHOD_DEF, TYPE_DEF, bundle
 LONGEST = 16382
 # Of a longer list than twice that, only so many from either end are asked for.
 ENDS = 24
-NO_ROW, NAMELESS = "!4", "!5"
+NO_ROW, NAMELESS, OVER = "!4", "!5", "!11"
+# The calls that count steps, and what they are allowed where nothing else is said: as much as a listing allows for a name.
+COUNTING = ("base_count", "base_name", "return_type", "param_count", "param_type", "param_name")
+ALLOWED = 1000000
+MARK = "!"  # in a record or in steps: above the ceiling
 NULL_INDEX, PAST_END, NO_ZERO = ".1", ".2", ".3"  # why a string is missing
 NAME_PLACES = {TYPE_DEF: 4, METHOD_DEF: 8, GENERIC_PARAM: 6}  # in a row, of the Name column
 LAST = 0xFFFFFFFF
@@ -21,8 +27,9 @@ class Records:
     us stop at the last method then: no class takes other methods if that column is lowered to just after the last one, so the record of
     the lowered streams is taken, in which the Rust does not panic."""
 
-    def __init__(self, options=("--record",)):
-        self.oracle, self.walker = Oracle(options), Oracle(["--extents"])
+    def __init__(self, options=("--record",), ceiling=ALLOWED):
+        self.ceiling = "--ceiling", str(ceiling)
+        self.oracle, self.walker, self.counter = Oracle([*options, *self.ceiling]), Oracle(["--extents"]), None
         self.panics = 0
 
     def ask(self, case, seconds=SECONDS):
@@ -30,15 +37,28 @@ class Records:
         record = self.oracle.ask(case, seconds)
         if record == b"panic\n":
             self.panics += 1
-            tables, *heaps = streams(case)
-            record = self.oracle.ask(bundle(lowered(tables, self.walker.ask(case)), *heaps), seconds)
-        if record in (b"panic\n", b"inconsistent\n"):
-            sys.exit("no record of the input %s: %s" % (case.hex(), record.decode()))
-        return record
+            record = self.oracle.ask(self.lowered(case), seconds)
+        return told(case, record)
+
+    def steps(self, case, seconds=SECONDS):
+        """The steps of its classes and methods in the same way."""
+        self.counter = self.counter or Oracle(["--steps", *self.ceiling])
+        steps = self.counter.ask(case, seconds)
+        return told(case, self.counter.ask(self.lowered(case), seconds) if steps == b"panic\n" else steps)
+
+    def lowered(self, case):
+        tables, *heaps = streams(case)
+        return bundle(lowered(tables, self.walker.ask(case)), *heaps)
 
     def end(self):
-        self.oracle.end()
-        self.walker.end()
+        for running in filter(None, (self.oracle, self.walker, self.counter)):
+            running.end()
+
+
+def told(case, answer):
+    if answer in (b"panic\n", b"inconsistent\n"):
+        sys.exit("no record of the input %s: %s" % (case.hex(), answer.decode()))
+    return answer
 
 
 def lowered(tables, extents):
@@ -104,7 +124,8 @@ def name_of(present, digits):
 
 def read_record(answer):
     """The refusal and the classes: each its name, flags, the names of its generic parameters and base types, and its methods: name,
-    flags, generic parameters, return type and the type and name of each parameter."""
+    flags, generic parameters, return type and the type and name of each parameter. What takes too many steps has no base types, or no
+    return type and no parameters."""
     refusal, classes, method = None, [], None
     for line in answer.decode().splitlines():
         key, present, value = line.partition("=")
@@ -117,7 +138,7 @@ def read_record(answer):
             classes[-1]["flags"] = value
         elif key == "generic":
             classes[-1]["generics"].append(name)
-        elif key == "base":
+        elif key == "base" and value != MARK:
             classes[-1]["bases"].append(name)
         elif key == "method":
             method = {"name": name, "generics": [], "types": [], "names": []}
@@ -127,7 +148,7 @@ def read_record(answer):
         elif key == "mgeneric":
             method["generics"].append(name)
         elif key == "returns":
-            method["returns"] = name
+            method["returns"] = NAMELESS if value == MARK else name
         elif key == "ptype":
             method["types"].append(name)
         elif key == "pname":
@@ -135,87 +156,121 @@ def read_record(answer):
     return refusal, classes
 
 
-def line(call, numbers, answer):
-    return " ".join([call, *map(str, numbers), "=", str(answer)]).rstrip()
+def with_steps(classes, answer):
+    """The classes and their methods with the steps that they take, by the oracle's lines of them: infinitely many above its ceiling."""
+    counts = iter(line.rpartition("steps=")[2] for line in answer.decode().splitlines())
+    for found in classes:
+        for owner in (found, *found["methods"]):
+            count = next(counts)
+            owner["steps"] = math.inf if count == MARK else int(count)
+    return classes
 
+
+def charged(answer, steps, allowance):
+    """The answer of a call that counts so many steps, and what is left of an allowance. Where a class or a method is not there, or nothing
+    is read, nothing is counted, None."""
+    if steps is None:
+        return answer, allowance
+    if steps > allowance:
+        return OVER, 0
+    return answer, allowance if answer == NO_ROW else allowance - steps
+
+
+def line(call, numbers, answer, steps=None, allowance=None):
+    """With an allowance, and what is left of it, behind a slash. A call that counts nothing takes one by its question alone."""
+    within = []
+    if call in COUNTING or allowance is not None:
+        allowance = ALLOWED if allowance is None else allowance
+        answer, left = charged(answer, steps, allowance)
+        within = ["/%d" % allowance, left]
+    return " ".join(map(str, [call, *numbers, *within, "=", answer])).rstrip()
+
+
+# What is asked: a call, its numbers, its answer if the allowance suffices, and the steps that it counts.
 
 def of_missing_method(c, m, refusal=NO_ROW):
-    yield line("method_flags", (c, m), refusal)
-    yield line("method_name", (c, m), refusal)
-    yield line("method_generic_count", (c, m), refusal)
-    yield line("method_generic_name", (c, m, 0), refusal)
-    yield line("return_type", (c, m), refusal)
-    yield line("param_count", (c, m), refusal)
-    yield line("param_type", (c, m, 0), refusal)
-    yield line("param_name", (c, m, 0), refusal)
+    yield "method_flags", (c, m), refusal, None
+    yield "method_name", (c, m), refusal, None
+    yield "method_generic_count", (c, m), refusal, None
+    yield "method_generic_name", (c, m, 0), refusal, None
+    yield "return_type", (c, m), refusal, None
+    yield "param_count", (c, m), refusal, None
+    yield "param_type", (c, m, 0), refusal, None
+    yield "param_name", (c, m, 0), refusal, None
 
 
 def of_missing_class(c, refusal=NO_ROW):
-    yield line("class_flags", (c,), refusal)
-    yield line("class_name", (c,), refusal)
-    yield line("generic_count", (c,), refusal)
-    yield line("generic_name", (c, 0), refusal)
-    yield line("base_count", (c,), refusal)
-    yield line("base_name", (c, 0), refusal)
-    yield line("method_count", (c,), refusal)
+    yield "class_flags", (c,), refusal, None
+    yield "class_name", (c,), refusal, None
+    yield "generic_count", (c,), refusal, None
+    yield "generic_name", (c, 0), refusal, None
+    yield "base_count", (c,), refusal, None
+    yield "base_name", (c, 0), refusal, None
+    yield "method_count", (c,), refusal, None
     yield from of_missing_method(c, 0, refusal)
 
 
-def of_list(call, numbers, names):
+def of_list(call, numbers, names, steps=None):
     """The answers of a call for a name by its place; of a long list those near both ends. Then that for the place just past the end."""
     for i, name in enumerate(names):
         if i < ENDS or len(names) - i <= ENDS:
-            yield line(call, (*numbers, i), name)
-    yield line(call, (*numbers, len(names)), NO_ROW)
+            yield call, (*numbers, i), name, steps
+    yield call, (*numbers, len(names)), NO_ROW, steps
 
 
-def of_counted(kind, numbers, names):
-    yield line(kind + "_count", numbers, len(names))
-    yield from of_list(kind + "_name", numbers, names)
+def of_counted(kind, numbers, names, steps=None):
+    yield kind + "_count", numbers, len(names), steps
+    yield from of_list(kind + "_name", numbers, names, steps)
 
 
 def of_method(c, m, found):
-    yield line("method_flags", (c, m), found["flags"])
-    yield line("method_name", (c, m), found["name"])
+    yield "method_flags", (c, m), found["flags"], None
+    yield "method_name", (c, m), found["name"], None
     yield from of_counted("method_generic", (c, m), found["generics"])
-    yield line("return_type", (c, m), found["returns"])
-    yield from of_counted("param", (c, m), found["names"])
-    yield from of_list("param_type", (c, m), found["types"])
+    yield "return_type", (c, m), found["returns"], found["steps"]
+    yield from of_counted("param", (c, m), found["names"], found["steps"])
+    yield from of_list("param_type", (c, m), found["types"], found["steps"])
 
 
 def of_class(c, found, thorough):
-    yield line("class_flags", (c,), found["flags"])
-    yield line("class_name", (c,), found["name"])
+    yield "class_flags", (c,), found["flags"], None
+    yield "class_name", (c,), found["name"], None
     yield from of_counted("generic", (c,), found["generics"])
-    yield from of_counted("base", (c,), found["bases"])
-    yield line("method_count", (c,), len(found["methods"]))
+    yield from of_counted("base", (c,), found["bases"], found["steps"])
+    yield "method_count", (c,), len(found["methods"]), None
     for m, method in enumerate(found["methods"]):
         yield from of_method(c, m, method)
     past = len(found["methods"])
-    yield from of_missing_method(c, past) if thorough else [line("method_name", (c, past), NO_ROW)]
+    yield from of_missing_method(c, past) if thorough else [("method_name", (c, past), NO_ROW, None)]
 
 
-def answers(records, case, record, thorough):
-    """A line for each answer of the record but those that are too long or in the middle of a long list, and for some that are refused:
-    just past each end, and, if it is to be thorough, by every call there and at the largest numbers."""
+def asked(records, case, record, thorough):
+    """Each answer of the record but those in the middle of a long list, and some that are refused: just past each end, and, if it is to be
+    thorough, by every call there and at the largest numbers."""
     refusal, classes = read_record(record)
-    classes = told_reasons(records, case, classes)
     if refusal:
-        yield line("class_count", (), "!%d" % refusal)
+        yield "class_count", (), "!%d" % refusal, None
         yield from of_missing_class(0, "!%d" % refusal)
         return
-    yield line("class_count", (), len(classes))
+    classes = with_steps(told_reasons(records, case, classes), records.steps(case))
+    yield "class_count", (), len(classes), None
     for c, found in enumerate(classes):
-        yield from filter(is_short, of_class(c, found, thorough))
+        yield from of_class(c, found, thorough)
     for c in (len(classes), LAST - 1, LAST) if thorough else (len(classes),):
         yield from of_missing_class(c)
     if classes and thorough:
-        yield line("generic_name", (0, LAST), NO_ROW)
-        yield line("base_name", (0, LAST), NO_ROW)
+        yield "generic_name", (0, LAST), NO_ROW, None
+        yield "base_name", (0, LAST), NO_ROW, classes[0]["steps"]
         yield from of_missing_method(0, LAST)
-        if classes[0]["methods"]:
-            for call in ("method_generic_name", "param_type", "param_name"):
-                yield line(call, (0, 0, LAST), NO_ROW)
+        for m, method in enumerate(classes[0]["methods"][:1]):
+            yield "method_generic_name", (0, m, LAST), NO_ROW, None
+            yield "param_type", (0, m, LAST), NO_ROW, method["steps"]
+            yield "param_name", (0, m, LAST), NO_ROW, method["steps"]
+
+
+def answers(records, case, record, thorough):
+    """The lines of all that is asked, but those that are too long."""
+    return filter(is_short, (line(*one) for one in asked(records, case, record, thorough)))
 
 
 def is_short(line):

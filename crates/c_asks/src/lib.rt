@@ -2,10 +2,9 @@
 use buffers::Reply;
 use c_questions::NameAsked;
 use c_questions::NumberAsked;
-use c_replies::DnReply;
-ghost use mathlib.Core.Path.{_≡_};
+use steps::Charged;
 ghost use Rattle.record.specs.View.{view};
-ghost use Rattle.c_replies.specs.Told.{told, ToldName};
+ghost use Rattle.record.specs.Allowance.{NumberedCharged, NamedCharged};
 ghost use Rattle.c_questions.specs.Asked.{optionsOf, numberAsked, nameAsked, askedNumber, askedName};
 
 // Any call for a number, by the number of its question.
@@ -14,22 +13,24 @@ pub fn ask_number(
     strings: &[u8],
     blob: &[u8],
     options: u32,
+    steps: u64,
     question: u32,
     a: u32,
     b: u32,
     c: u32,
-) -> DnReply
+) -> Charged
     ensures { λ r. let v = view (optionsOf options) (now (tables .entry)) (now (strings .entry)) (now (blob .entry)) in
-        ⌜ r ≡ told (askedNumber (numberAsked question a b) v) ⌝ }
+        ⌜ NumberedCharged (askedNumber (numberAsked question a b) v steps) (r .reply) (r .left) ⌝ }
 {
     let meant = c_questions::options_of(options);
     match c_questions::number_asked(question, a, b) {
-        NumberAsked::Question(q) => {
-            c_replies::reply_of(dotnet::ask_number(tables, strings, blob, meant, q))
-        }
+        NumberAsked::Question(q) => { dotnet::ask_number(tables, strings, blob, meant, steps, q) }
         NumberAsked::NoQuestion => {
             let why = c_questions::refused_question(tables, meant);
-            c_replies::reply_of(Reply::No(why))
+            Charged {
+                reply: Reply::No(why),
+                left: steps,
+            }
         }
     }
 }
@@ -40,23 +41,25 @@ pub fn ask_name(
     strings: &[u8],
     blob: &[u8],
     options: u32,
+    steps: u64,
     question: u32,
     a: u32,
     b: u32,
     c: u32,
     buf: &mut [u8],
-) -> DnReply
+) -> Charged
     ensures { λ r. let v = view (optionsOf options) (now (tables .entry)) (now (strings .entry)) (now (blob .entry)) in
-        ⌜ ToldName (askedName (nameAsked question a b c) v) (now (buf .entry)) r (now (buf .exit)) ⌝ }
+        ⌜ NamedCharged (askedName (nameAsked question a b c) v steps) (now (buf .entry)) (r .reply) (now (buf .exit)) (r .left) ⌝ }
 {
     let meant = c_questions::options_of(options);
     match c_questions::name_asked(question, a, b, c) {
-        NameAsked::Question(q) => {
-            c_replies::reply_of(dotnet::ask_name(tables, strings, blob, meant, q, buf))
-        }
+        NameAsked::Question(q) => { dotnet::ask_name(tables, strings, blob, meant, steps, q, buf) }
         NameAsked::NoQuestion => {
             let why = c_questions::refused_question(tables, meant);
-            c_replies::reply_of(buffers::refuse(buf, why))
+            Charged {
+                reply: buffers::refuse(buf, why),
+                left: steps,
+            }
         }
     }
 }

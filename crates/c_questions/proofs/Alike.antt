@@ -6,7 +6,8 @@ use lib.ListN.{length}
 use Rattle.buffers.specs.Texts.{Text}
 use Rattle.buffers.specs.Replies.{Answer, nameReply, nameBuffer}
 use Rattle.tables.specs.Extents.{Walked, walkOf}
-use Rattle.record.specs.Answers.{walkAnswer}
+use Rattle.record.specs.Answers.{walkAnswer, numberAnswer, nameAnswer}
+use Rattle.record.specs.Allowance.{Charged}
 use Rattle.record.proofs.Laws.{walk-is}
 use Rattle.record.proofs.Demand.{rearrangement-survives}
 use Rattle.c_replies.specs.Told.{told, ToldName, toldExtent}
@@ -28,6 +29,13 @@ calls-alike o t u strings blob r =
     record {
       stop-same = ap (λ (w : Walked). told (w .stop)) walk;
       extents-same = λ kind. ap (λ (w : Walked). toldExtent w kind) walk;
-      numbers-same = λ call. same .all-else-same (λ v. told (askedNumber call v));
-      names-same = λ call before before′ after after′ d d′. told-same (same .all-else-same (askedName call));
+      numbers-same = λ call allowance d d′ left left′ x y.
+          let one = same .all-else-same (λ v. askedNumber call v allowance) in
+          (y .reply ∙ ap (λ a. told (a .answer)) one ∙ sym (x .reply), y .leaves ∙ ap (λ a. a .left) one ∙ sym (x .leaves));
+      names-same = λ call allowance before before′ after after′ d d′ left left′ l x y.
+          let one = same .all-else-same (λ v. askedName call v allowance) in
+          let told = told-same (ap (λ a. a .answer) one) l (x .name) (y .name) in
+          (told .0, told .1, y .leaves ∙ ap (λ a. a .left) one ∙ sym (x .leaves));
+      plain-numbers-same = λ call. same .all-else-same (λ v. told (numberAnswer call v));
+      plain-names-same = λ call before before′ after after′ d d′. told-same (same .all-else-same (nameAnswer call));
     }

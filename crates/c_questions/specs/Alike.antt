@@ -1,5 +1,5 @@
--- Demand 3 as the calls for C meet it: asked alike on a tables stream and on an allowed rearrangement of it, each gives the same reply and
--- leaves the same buffer. A call's contract promises one of the four forms below; the raw lookup (`toldLookup`) does not read the tables.
+-- Demand 3 as the calls for C meet it: asked alike on a tables stream and on an allowed rearrangement of it, each gives the same reply, leaves
+-- the same buffer and leaves as much of the steps. A call's contract promises one of the forms below; the raw lookup (`toldLookup`) does not read the tables.
 use mathlib.Core.Path.{_≡_}
 use mathlib.Core.List.{List}
 use mathlib.Core.Option.{Option}
@@ -9,8 +9,8 @@ use Rattle.header.specs.declared.Options.{Options}
 use Rattle.tables.specs.Extents.{walkOf}
 use Rattle.record.specs.View.{view}
 use Rattle.record.specs.Rearrangement.{Rearranged}
-use Rattle.record.specs.Answers.{NumberCall, NameCall}
-use Rattle.c_replies.specs.Told.{told, ToldName, toldExtent}
+use Rattle.record.specs.Answers.{NumberCall, numberAnswer, NameCall, nameAnswer}
+use Rattle.c_replies.specs.Told.{told, ToldName, ToldNumberCharged, ToldNameCharged, toldExtent}
 use Rattle.c_replies.specs.declared.DnReply.{DnReply}
 use Rattle.c_questions.specs.Asked.{askedNumber, askedName}
 
@@ -21,11 +21,23 @@ pub record SameReplies (o : Options) (t u strings blob : List ℕ) : Type 0 wher
   pub stop-same : told (walkOf o u .stop) ≡ told (walkOf o t .stop)
   pub extents-same : (kind : ℕ) → toldExtent (walkOf o u) kind ≡ toldExtent (walkOf o t) kind
   pub numbers-same :
-      (call : Option NumberCall) → told (askedNumber call (view o u strings blob)) ≡ told (askedNumber call (view o t strings blob))
+      (call : Option NumberCall) (allowance : ℕ) (r r′ : DnReply) (left left′ : ℕ)
+      → ToldNumberCharged (askedNumber call (view o t strings blob) allowance) r left
+      → ToldNumberCharged (askedNumber call (view o u strings blob) allowance) r′ left′
+      → (r′ ≡ r) × (left′ ≡ left)
   pub names-same :
-      (call : Option NameCall) (before before′ after after′ : List ℕ) (r r′ : DnReply) → length before′ ≡ length before
-      → ToldName (askedName call (view o t strings blob)) before r after
-      → ToldName (askedName call (view o u strings blob)) before′ r′ after′
+      (call : Option NameCall) (allowance : ℕ) (before before′ after after′ : List ℕ) (r r′ : DnReply) (left left′ : ℕ)
+      → length before′ ≡ length before
+      → ToldNameCharged (askedName call (view o t strings blob) allowance) before r after left
+      → ToldNameCharged (askedName call (view o u strings blob) allowance) before′ r′ after′ left′
+      → (r′ ≡ r) × (after′ ≡ after) × (left′ ≡ left)
+  -- The calls that take no steps.
+  pub plain-numbers-same :
+      (call : NumberCall) → told (numberAnswer call (view o u strings blob)) ≡ told (numberAnswer call (view o t strings blob))
+  pub plain-names-same :
+      (call : NameCall) (before before′ after after′ : List ℕ) (r r′ : DnReply) → length before′ ≡ length before
+      → ToldName (nameAnswer call (view o t strings blob)) before r after
+      → ToldName (nameAnswer call (view o u strings blob)) before′ r′ after′
       → (r′ ≡ r) × (after′ ≡ after)
 
 abbrev pub CallsAlike : Type 0

@@ -3,7 +3,7 @@ use mathlib.Core.List.{List, [], _∷_}
 use mathlib.Core.Option.{Option, none, some}
 use Prim.Native.Nat.{ℕ}
 use Rattle.buffers.specs.Texts.{Text}
-use Rattle.buffers.specs.Replies.{Answer, refusedBy}
+use Rattle.buffers.specs.Replies.{refusedBy}
 use Rattle.buffers.specs.declared.Refusal.{Refusal}
 use Rattle.buffers.specs.declared.Refusal.the-variants.{NoSuchRow}
 use Rattle.header.specs.Stream.{base}
@@ -12,8 +12,9 @@ use Rattle.header.specs.declared.Opened.{Opened}
 use Rattle.header.specs.declared.Opened.the-variants.{Refused, Ready}
 use Rattle.record.specs.View.{View}
 use Rattle.record.specs.Types.{look}
-use Rattle.record.specs.Answers.{NumberCall, numberAnswer, ClassCount, ClassFlags, GenericCount, BaseCount, MethodCount, MethodFlags, MethodGenericCount, ParameterCount}
-use Rattle.record.specs.Answers.{NameCall, nameAnswer, ClassName, GenericName, BaseName, MethodName, MethodGenericName, ReturnType, ParameterType, ParameterName}
+use Rattle.record.specs.Answers.{NumberCall, ClassCount, ClassFlags, GenericCount, BaseCount, MethodCount, MethodFlags, MethodGenericCount, ParameterCount}
+use Rattle.record.specs.Answers.{NameCall, ClassName, GenericName, BaseName, MethodName, MethodGenericName, ReturnType, ParameterType, ParameterName}
+use Rattle.record.specs.Allowance.{Charged, numberCharged, nameCharged}
 use Rattle.questions.specs.Questions.{numberCall, nameCall}
 use Rattle.c_questions.specs.declared.NumberAsked.{NumberAsked}
 use Rattle.c_questions.specs.declared.NumberAsked.the-variants as number-asked
@@ -49,13 +50,17 @@ abbrev pub noQuestion : Opened → Refusal
 noQuestion (Refused why) = why
 noQuestion Ready = NoSuchRow
 
-abbrev pub askedNumber : Option NumberCall → View → Answer ℕ
-askedNumber none v = refusedBy (noQuestion (v .header .answer))
-askedNumber (some call) v = numberAnswer call v
+-- What a question is answered within an allowance. One that there is not takes nothing of it.
+abbrev pub noSuch : {A : Type 0} → View → ℕ → Charged A
+noSuch v allowance = record { answer = refusedBy (noQuestion (v .header .answer)); left = allowance }
 
-abbrev pub askedName : Option NameCall → View → Answer Text
-askedName none v = refusedBy (noQuestion (v .header .answer))
-askedName (some call) v = nameAnswer call v
+abbrev pub askedNumber : Option NumberCall → View → ℕ → Charged ℕ
+askedNumber none v allowance = noSuch v allowance
+askedNumber (some call) v allowance = numberCharged call v allowance
+
+abbrev pub askedName : Option NameCall → View → ℕ → Charged Text
+askedName none v allowance = noSuch v allowance
+askedName (some call) v allowance = nameCharged call v allowance
 
 -- What the code found a question number to mean.
 abbrev pub numberMeant : NumberAsked → Option NumberCall

@@ -13,13 +13,14 @@ use Rattle.buffers.specs.declared.Refusal.the-variants.{NotFound}
 use Rattle.heaps.specs.Lookups.{stringAt, blobAt, partNumber, partReason, partStart, partLength}
 use Rattle.heaps.specs.declared.Part.{Part}
 use Rattle.tables.specs.Extents.{Walked}
+use Rattle.record.specs.Allowance.{Charged}
 use Rattle.c_replies.specs.declared.DnReply.{DnReply}
 use Rattle.c_replies.specs.declared.DnPart.{DnPart}
 use Rattle.c_replies.specs.declared.DnExtent.{DnExtent}
 
 -- The version of the interface, DN_VERSION in the header: whatever changes a signature, a struct or the longest line raises both.
 abbrev pub theVersion : ℕ
-theVersion = 4
+theVersion = 5
 
 -- An answer: its value and 0, or 0, the number that says no and the reason beside it.
 abbrev pub told : Answer ℕ → DnReply
@@ -30,6 +31,15 @@ told (refused w) = record { value = 0; refusal = w .number; reason = w .reason }
 pub record ToldName (a : Answer Text) (before : List ℕ) (r : DnReply) (after : List ℕ) : Type 0 where
   pub reply : r ≡ told (nameReply a (length before))
   pub buffer : after ≡ nameBuffer a (length before)
+
+-- The promises of a call that counts: of the reply, of the buffer, and of what is left of the allowance.
+pub record ToldNumberCharged (a : Charged ℕ) (r : DnReply) (left : ℕ) : Type 0 where
+  pub reply : r ≡ told (a .answer)
+  pub leaves : left ≡ a .left
+
+pub record ToldNameCharged (a : Charged Text) (before : List ℕ) (r : DnReply) (after : List ℕ) (left : ℕ) : Type 0 where
+  pub name : ToldName (a .answer) before r after
+  pub leaves : left ≡ a .left
 
 -- A lookup that finds nothing, and why.
 abbrev pub noPart : Reason → DnPart

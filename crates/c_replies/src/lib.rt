@@ -5,6 +5,7 @@ use buffers::Reason;
 use buffers::Refusal;
 use buffers::Reply;
 use heaps::Part;
+use steps::Charged;
 use tables::Extents;
 ghost use mathlib.Core.Path.{_≡_};
 ghost use Rattle.buffers.specs.Replies.{replySays};
@@ -37,7 +38,7 @@ pub struct DnExtent {
 }
 
 // The version of the interface, DN_VERSION in the header.
-const VERSION: u32 = 4;
+const VERSION: u32 = 5;
 
 pub fn version() -> u32
     ensures { λ r. ⌜ r ≡ theVersion ⌝ }
@@ -60,6 +61,15 @@ pub fn reply_of(reply: Reply) -> DnReply
             reason: buffers::reason_number(why) as usize,
         },
     }
+}
+
+// The reply of a call that counts steps; what is left of them goes where they came from.
+pub fn reply_charged(asked: Charged, steps: &mut u64) -> DnReply
+    ensures { λ r. ⌜ (r ≡ told (replySays (asked .reply))) × (now (steps .exit) ≡ asked .left) ⌝ }
+{
+    *steps = asked.left;
+    let reply = asked.reply;
+    reply_of(reply)
 }
 
 // The kind at which a walk was left.

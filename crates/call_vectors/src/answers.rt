@@ -1,8 +1,9 @@
-// One recorded answer, `CALL NUMBERS = ANSWER`: the call is asked, and all that it hands back compared. The answer is a number, a name in
-// hex, or `!` and the number of a refusal, with a point and the reason behind it where that is not 0. A name is asked for with buffers of
-// every length up to two more than its own, a name that is refused with those of up to four bytes; of a name of more than 64 bytes the
-// lengths up to 8 and those from four less than its own are tried. Each length is tried with a buffer that holds 0x00 before, one that
-// holds 0xAA and one that holds 0xFF.
+// One recorded answer, `CALL NUMBERS = ANSWER` or `CALL NUMBERS /ALLOWANCE LEFT = ANSWER`: the call is asked, and all that it hands back
+// compared. The answer is a number, a name in hex, or `!` and the number of a refusal, with a point and the reason behind it where that is
+// not 0. A name is asked for with buffers of every length up to two more than its own, a name that is refused with those of up to four
+// bytes; of a name of more than 64 bytes the lengths up to 8 and those from four less than its own are tried. Each length is tried with a
+// buffer that holds 0x00 before, one that holds 0xAA and one that holds 0xFF. The calls that count steps have an allowance, and are asked by
+// name and by their questions; another call that has one is asked by its question alone. What is left is compared each time.
 use buffers::Refusal;
 use buffers::Reply;
 use buffers::reason_number;
@@ -13,13 +14,25 @@ use case_text::read_decimal;
 use check::same;
 use classes::ClassNumber;
 use header::base_options;
+use questions::NameQuestion;
+use questions::NumberQuestion;
+use steps::Charged;
 
-// The numbers of a line: a class; its method, generic parameter or base type; a generic parameter or a parameter of that method. Those
-// that a call does not take count for nothing.
+// How a call is asked.
+enum Way {
+    Plain,
+    Within,
+    Question,
+}
+
+// The numbers of a line: a class; its method, generic parameter or base type; a generic parameter or a parameter of that method; the
+// allowance, and what is to be left of it. Those that a call does not take count for nothing.
 struct Asked {
     class: ClassNumber,
     member: u32,
     part: u32,
+    steps: u64,
+    left: u64,
 }
 
 // The number and the reason of a refusal; both are 0 where nothing is refused.
@@ -30,25 +43,55 @@ struct Refused {
 
 pub fn agrees(line: &[u8], tables: &[u8], strings: &[u8], blob: &[u8]) -> bool {
     let call = first(line);
-    let asked = asked_in(after(line, call.len()));
+    let slash = heaps::find_byte(line, 0, b'/');
+    let asked = asked_in(after(line, call.len()), after(line, slash));
     let equals = heaps::find_byte(line, 0, b'=');
     let answer = after(after(line, equals), 0);
-    if is_of_name(call) {
-        return name_agrees(call, tables, strings, blob, asked, answer);
+    if slash == line.len() {
+        return agrees_so(Way::Plain, call, tables, strings, blob, asked, answer);
     }
-    number_agrees(ask_number(call, tables, strings, blob, asked), answer)
+    if !agrees_so(Way::Question, call, tables, strings, blob, asked, answer) {
+        return false;
+    }
+    if !is_counting(call) {
+        return true;
+    }
+    agrees_so(Way::Within, call, tables, strings, blob, asked, answer)
 }
 
-fn asked_in(numbers: &[u8]) -> Asked {
+// Whether the call, asked in that way, answers so.
+fn agrees_so(
+    way: Way,
+    call: &[u8],
+    tables: &[u8],
+    strings: &[u8],
+    blob: &[u8],
+    asked: Asked,
+    answer: &[u8],
+) -> bool {
+    if is_of_name(call) {
+        return name_agrees(way, call, tables, strings, blob, asked, answer);
+    }
+    let came = ask_number(way, call, tables, strings, blob, asked);
+    let reply = came.reply;
+    came.left == asked.left && number_agrees(reply, answer)
+}
+
+// The numbers before the slash, and behind it.
+fn asked_in(numbers: &[u8], allowed: &[u8]) -> Asked {
     let class = first(numbers);
     let after_class = after(numbers, class.len());
     let member = first(after_class);
     let after_member = after(after_class, member.len());
     let part = first(after_member);
+    let steps = first(allowed);
+    let left = first(after(allowed, steps.len()));
     Asked {
         class: ClassNumber(read_u32(class)),
         member: read_u32(member),
         part: read_u32(part),
+        steps: read_decimal(steps) as u64,
+        left: read_decimal(left) as u64,
     }
 }
 
@@ -67,29 +110,55 @@ fn is_of_name(call: &[u8]) -> bool {
     same(last, b"_type")
 }
 
-fn ask_number(call: &[u8], tables: &[u8], strings: &[u8], blob: &[u8], asked: Asked) -> Reply {
-    let options = base_options();
-    let class = asked.class;
-    if same(call, b"class_count") {
-        return dotnet::class_count(tables, strings, blob, options);
-    }
-    if same(call, b"class_flags") {
-        return dotnet::class_flags(tables, strings, blob, options, class);
-    }
-    if same(call, b"generic_count") {
-        return dotnet::generic_count(tables, strings, blob, options, class);
-    }
+// Whether a call counts steps.
+fn is_counting(call: &[u8]) -> bool {
     if same(call, b"base_count") {
-        return dotnet::base_count(tables, strings, blob, options, class);
+        return true;
     }
-    if same(call, b"method_count") {
-        return dotnet::method_count(tables, strings, blob, options, class);
+    if same(call, b"base_name") {
+        return true;
     }
-    ask_method_number(call, tables, strings, blob, asked)
+    if same(call, b"return_type") {
+        return true;
+    }
+    if same(call, b"param_count") {
+        return true;
+    }
+    if same(call, b"param_type") {
+        return true;
+    }
+    same(call, b"param_name")
 }
 
-// 8 answers a call that there is not.
-fn ask_method_number(
+// 8 answers a call that there is not, and nothing is left.
+fn no_call() -> Charged {
+    Charged {
+        reply: Reply::No(Refusal::BadInput),
+        left: 0,
+    }
+}
+
+// A call that takes no allowance leaves none.
+fn leaves_none(reply: Reply) -> Charged {
+    Charged { reply, left: 0 }
+}
+
+fn ask_number(
+    way: Way,
+    call: &[u8],
+    tables: &[u8],
+    strings: &[u8],
+    blob: &[u8],
+    asked: Asked,
+) -> Charged {
+    match way {
+        Way::Plain => leaves_none(ask_plain_number(call, tables, strings, blob, asked)),
+        Way::Within => ask_number_within(call, tables, strings, blob, asked),
+        Way::Question => ask_number_question(call, tables, strings, blob, asked),
+    }
+}
+
+fn ask_plain_number(
     call: &[u8],
     tables: &[u8],
     strings: &[u8],
@@ -99,42 +168,147 @@ fn ask_method_number(
     let options = base_options();
     let class = asked.class;
     let m = asked.member;
+    if same(call, b"class_count") {
+        return dotnet::class_count(tables, strings, blob, options);
+    }
+    if same(call, b"class_flags") {
+        return dotnet::class_flags(tables, strings, blob, options, class);
+    }
+    if same(call, b"generic_count") {
+        return dotnet::generic_count(tables, strings, blob, options, class);
+    }
+    if same(call, b"method_count") {
+        return dotnet::method_count(tables, strings, blob, options, class);
+    }
     if same(call, b"method_flags") {
         return dotnet::method_flags(tables, strings, blob, options, class, m);
     }
     if same(call, b"method_generic_count") {
         return dotnet::method_generic_count(tables, strings, blob, options, class, m);
     }
-    if same(call, b"param_count") {
-        return dotnet::param_count(tables, strings, blob, options, class, m);
-    }
     Reply::No(Refusal::BadInput)
 }
 
+fn ask_number_within(
+    call: &[u8],
+    tables: &[u8],
+    strings: &[u8],
+    blob: &[u8],
+    asked: Asked,
+) -> Charged {
+    let options = base_options();
+    let class = asked.class;
+    let steps = asked.steps;
+    if same(call, b"base_count") {
+        return dotnet::base_count(tables, strings, blob, options, steps, class);
+    }
+    if same(call, b"param_count") {
+        return dotnet::param_count(tables, strings, blob, options, steps, class, asked.member);
+    }
+    no_call()
+}
+
+fn ask_number_question(
+    call: &[u8],
+    tables: &[u8],
+    strings: &[u8],
+    blob: &[u8],
+    asked: Asked,
+) -> Charged {
+    let class = asked.class;
+    let m = asked.member;
+    let steps = asked.steps;
+    if same(call, b"class_count") {
+        return put_number(tables, strings, blob, steps, NumberQuestion::ClassCount);
+    }
+    if same(call, b"class_flags") {
+        return put_number(
+            tables,
+            strings,
+            blob,
+            steps,
+            NumberQuestion::ClassFlags(class),
+        );
+    }
+    if same(call, b"generic_count") {
+        return put_number(
+            tables,
+            strings,
+            blob,
+            steps,
+            NumberQuestion::GenericCount(class),
+        );
+    }
+    if same(call, b"base_count") {
+        return put_number(
+            tables,
+            strings,
+            blob,
+            steps,
+            NumberQuestion::BaseCount(class),
+        );
+    }
+    if same(call, b"method_count") {
+        return put_number(
+            tables,
+            strings,
+            blob,
+            steps,
+            NumberQuestion::MethodCount(class),
+        );
+    }
+    if same(call, b"method_flags") {
+        return put_number(
+            tables,
+            strings,
+            blob,
+            steps,
+            NumberQuestion::MethodFlags(class, m),
+        );
+    }
+    if same(call, b"method_generic_count") {
+        let count = NumberQuestion::MethodGenericCount(class, m);
+        return put_number(tables, strings, blob, steps, count);
+    }
+    if same(call, b"param_count") {
+        return put_number(
+            tables,
+            strings,
+            blob,
+            steps,
+            NumberQuestion::ParamCount(class, m),
+        );
+    }
+    no_call()
+}
+
+fn put_number(
+    tables: &[u8],
+    strings: &[u8],
+    blob: &[u8],
+    steps: u64,
+    question: NumberQuestion,
+) -> Charged {
+    dotnet::ask_number(tables, strings, blob, base_options(), steps, question)
+}
+
 fn ask_name(
+    way: Way,
     call: &[u8],
     tables: &[u8],
     strings: &[u8],
     blob: &[u8],
     asked: Asked,
     buf: &mut [u8],
-) -> Reply {
-    let options = base_options();
-    let class = asked.class;
-    let i = asked.member;
-    if same(call, b"class_name") {
-        return dotnet::class_name(tables, strings, blob, options, class, buf);
+) -> Charged {
+    match way {
+        Way::Plain => leaves_none(ask_plain_name(call, tables, strings, blob, asked, buf)),
+        Way::Within => ask_name_within(call, tables, strings, blob, asked, buf),
+        Way::Question => ask_name_question(call, tables, strings, blob, asked, buf),
     }
-    if same(call, b"generic_name") {
-        return dotnet::generic_name(tables, strings, blob, options, class, i, buf);
-    }
-    if same(call, b"base_name") {
-        return dotnet::base_name(tables, strings, blob, options, class, i, buf);
-    }
-    ask_method_name(call, tables, strings, blob, asked, buf)
 }
 
-fn ask_method_name(
+fn ask_plain_name(
     call: &[u8],
     tables: &[u8],
     strings: &[u8],
@@ -146,22 +320,162 @@ fn ask_method_name(
     let class = asked.class;
     let m = asked.member;
     let i = asked.part;
+    if same(call, b"class_name") {
+        return dotnet::class_name(tables, strings, blob, options, class, buf);
+    }
+    if same(call, b"generic_name") {
+        return dotnet::generic_name(tables, strings, blob, options, class, m, buf);
+    }
     if same(call, b"method_name") {
         return dotnet::method_name(tables, strings, blob, options, class, m, buf);
     }
     if same(call, b"method_generic_name") {
         return dotnet::method_generic_name(tables, strings, blob, options, class, m, i, buf);
     }
+    Reply::No(Refusal::BadInput)
+}
+
+fn ask_name_within(
+    call: &[u8],
+    tables: &[u8],
+    strings: &[u8],
+    blob: &[u8],
+    asked: Asked,
+    buf: &mut [u8],
+) -> Charged {
+    let options = base_options();
+    let class = asked.class;
+    let steps = asked.steps;
+    let m = asked.member;
+    let i = asked.part;
+    if same(call, b"base_name") {
+        return dotnet::base_name(tables, strings, blob, options, steps, class, m, buf);
+    }
     if same(call, b"return_type") {
-        return dotnet::return_type(tables, strings, blob, options, class, m, buf);
+        return dotnet::return_type(tables, strings, blob, options, steps, class, m, buf);
     }
     if same(call, b"param_type") {
-        return dotnet::param_type(tables, strings, blob, options, class, m, i, buf);
+        return dotnet::param_type(tables, strings, blob, options, steps, class, m, i, buf);
     }
     if same(call, b"param_name") {
-        return dotnet::param_name(tables, strings, blob, options, class, m, i, buf);
+        return dotnet::param_name(tables, strings, blob, options, steps, class, m, i, buf);
     }
-    Reply::No(Refusal::BadInput)
+    no_call()
+}
+
+fn ask_name_question(
+    call: &[u8],
+    tables: &[u8],
+    strings: &[u8],
+    blob: &[u8],
+    asked: Asked,
+    buf: &mut [u8],
+) -> Charged {
+    let class = asked.class;
+    let m = asked.member;
+    let steps = asked.steps;
+    if same(call, b"class_name") {
+        return put_name(
+            tables,
+            strings,
+            blob,
+            steps,
+            NameQuestion::ClassName(class),
+            buf,
+        );
+    }
+    if same(call, b"generic_name") {
+        return put_name(
+            tables,
+            strings,
+            blob,
+            steps,
+            NameQuestion::GenericName(class, m),
+            buf,
+        );
+    }
+    if same(call, b"base_name") {
+        return put_name(
+            tables,
+            strings,
+            blob,
+            steps,
+            NameQuestion::BaseName(class, m),
+            buf,
+        );
+    }
+    if same(call, b"method_name") {
+        return put_name(
+            tables,
+            strings,
+            blob,
+            steps,
+            NameQuestion::MethodName(class, m),
+            buf,
+        );
+    }
+    if same(call, b"return_type") {
+        return put_name(
+            tables,
+            strings,
+            blob,
+            steps,
+            NameQuestion::ReturnType(class, m),
+            buf,
+        );
+    }
+    ask_part_question(call, tables, strings, blob, asked, buf)
+}
+
+// The questions for a generic parameter or a parameter of a method.
+fn ask_part_question(
+    call: &[u8],
+    tables: &[u8],
+    strings: &[u8],
+    blob: &[u8],
+    asked: Asked,
+    buf: &mut [u8],
+) -> Charged {
+    let class = asked.class;
+    let m = asked.member;
+    let i = asked.part;
+    let steps = asked.steps;
+    if same(call, b"method_generic_name") {
+        let name = NameQuestion::MethodGenericName(class, m, i);
+        return put_name(tables, strings, blob, steps, name, buf);
+    }
+    if same(call, b"param_type") {
+        return put_name(
+            tables,
+            strings,
+            blob,
+            steps,
+            NameQuestion::ParamType(class, m, i),
+            buf,
+        );
+    }
+    if same(call, b"param_name") {
+        return put_name(
+            tables,
+            strings,
+            blob,
+            steps,
+            NameQuestion::ParamName(class, m, i),
+            buf,
+        );
+    }
+    no_call()
+}
+
+fn put_name(
+    tables: &[u8],
+    strings: &[u8],
+    blob: &[u8],
+    steps: u64,
+    question: NameQuestion,
+    buf: &mut [u8],
+) -> Charged {
+    dotnet::ask_name(tables, strings, blob, base_options(), steps, question, buf)
 }
 
 fn not_refused() -> Refused {
@@ -207,6 +521,7 @@ fn number_agrees(came: Reply, answer: &[u8]) -> bool {
 }
 
 fn name_agrees(
+    way: Way,
     call: &[u8],
     tables: &[u8],
     strings: &[u8],
@@ -216,12 +531,13 @@ fn name_agrees(
 ) -> bool {
     let refusal = refusal_in(answer);
     if refusal.number != 0 {
-        return rooms_agree(call, tables, strings, blob, asked, refusal, b"", 4);
+        return rooms_agree(way, call, tables, strings, blob, asked, refusal, b"", 4);
     }
     let mut space = [0u8; 16384];
     let n = case_text::read_hex(answer, &mut space);
     let name = numbers::cut(&space, 0, n);
     rooms_agree(
+        way,
         call,
         tables,
         strings,
@@ -235,6 +551,7 @@ fn name_agrees(
 
 // Whether a name, or the refusal of one, is answered right in buffers of up to so many bytes.
 fn rooms_agree(
+    way: Way,
     call: &[u8],
     tables: &[u8],
     strings: &[u8],
@@ -249,7 +566,7 @@ fn rooms_agree(
     }
     let mut room = 0;
     while room <= last {
-        if !room_agrees(call, tables, strings, blob, asked, refusal, name, room) {
+        if !room_agrees(way, call, tables, strings, blob, asked, refusal, name, room) {
             return false;
         }
         room += 1;
@@ -258,6 +575,7 @@ fn rooms_agree(
 }
 
 fn room_agrees(
+    way: Way,
     call: &[u8],
     tables: &[u8],
     strings: &[u8],
@@ -271,6 +589,7 @@ fn room_agrees(
         return true;
     }
     fill_agrees(
+        way,
         call,
         tables,
         strings,
@@ -282,6 +601,7 @@ fn room_agrees(
         0x00,
     )
         && fill_agrees(
+            way,
             call,
             tables,
             strings,
@@ -293,6 +613,7 @@ fn room_agrees(
             0xAA,
         )
         && fill_agrees(
+            way,
             call,
             tables,
             strings,
@@ -316,6 +637,7 @@ fn is_tried(room: usize, length: usize) -> bool {
 }
 
 fn fill_agrees(
+    way: Way,
     call: &[u8],
     tables: &[u8],
     strings: &[u8],
@@ -327,23 +649,25 @@ fn fill_agrees(
     fill: u8,
 ) -> bool {
     let mut space = [fill; 16384];
-    let came = ask_in(&mut space, room, call, tables, strings, blob, asked);
-    reply_agrees(came, refusal, name, numbers::cut(&space, 0, room))
+    let came = ask_in(&mut space, room, way, call, tables, strings, blob, asked);
+    let reply = came.reply;
+    came.left == asked.left && reply_agrees(reply, refusal, name, numbers::cut(&space, 0, room))
 }
 
 fn ask_in(
     buffer: &mut [u8],
     room: usize,
+    way: Way,
     call: &[u8],
     tables: &[u8],
     strings: &[u8],
     blob: &[u8],
     asked: Asked,
-) -> Reply {
+) -> Charged {
     if buffer.len() < room {
-        return Reply::No(Refusal::BadInput);
+        return no_call();
     }
-    ask_name(call, tables, strings, blob, asked, &mut buffer[..room])
+    ask_name(way, call, tables, strings, blob, asked, &mut buffer[..room])
 }
 
 fn reply_agrees(came: Reply, refusal: Refused, name: &[u8], buffer: &[u8]) -> bool {

@@ -1,8 +1,9 @@
-// Replays recorded answers of the public calls from the file `cases`: data/cases holds what tests/oracle/record_calls writes; then, in
-// the same way, answers that are wrong on purpose from the file `wrong`, so that a program that finds no difference is found out. What
-// stands before the first `@` is passed over; each `@` begins a block: a line with its name, the lines `tables HEX`, `strings HEX` and
-// `blob HEX`, with `-` for an empty stream, then a line for each answer (see answers.rt). Lines that are empty or begin with `#` are
-// passed over. Each answer that differs is written as `FAIL` and its line; each block as `ok` or `FAIL`, its name and its answers.
+// Replays recorded answers of the public calls from the files `cases` and `steps`: data/cases holds what tests/oracle/record_calls writes,
+// data/steps what it writes of allowances; then, in the same way, answers that are wrong on purpose from the file `wrong`, so that a
+// program that finds no difference is found out. What stands before the first `@` is passed over; each `@` begins a block: a line with its
+// name, the lines `tables HEX`, `strings HEX` and `blob HEX`, with `-` for an empty stream, then a line for each answer (see answers.rt).
+// Lines that are empty or begin with `#` are passed over. Each answer that differs is written as `FAIL` and its line; each block as `ok` or
+// `FAIL`, its name and its answers.
 mod answers;
 
 // What became of a line.
@@ -135,5 +136,6 @@ fn run_file(path: &[u8]) {
 
 fn main() {
     run_file(b"cases");
+    run_file(b"steps");
     run_file(b"wrong");
 }

@@ -1,16 +1,18 @@
 -- An answer within an allowance, by what was counted and what it came to. Assumes nothing.
-use mathlib.Core.Path.{_≡_, refl, ap, _∙_}
+use mathlib.Core.Path.{_≡_, refl, sym, ap, subst, _∙_}
+use mathlib.Core.Bool.{true, false}
 use mathlib.Core.List.{List}
-use Prim.Native.Nat.{ℕ, _+_, _-_}
+use Prim.Native.Nat.{ℕ, _+_, _-_, _≤_}
 use native.Mathlib.Omega.{arith}
+use borrow.Author.Tests.{lt-ltb, le-ltb}
 use lib.ListN.{length}
 use Rattle.buffers.specs.Texts.{Text}
-use Rattle.buffers.specs.Replies.{Answer, refusedBy, replySays, Named}
+use Rattle.buffers.specs.Replies.{Answer, value, refusedBy, replySays, Named}
 use Rattle.buffers.specs.declared.Refusal.the-variants.{TooManySteps}
 use Rattle.buffers.specs.declared.Reply.{Reply}
 use Rattle.buffers.specs.declared.Reply.the-variants.{No}
 use Rattle.record.specs.Answers.{Numbered}
-use Rattle.record.specs.Allowance.{countOf, cost, charge, NumberedCharged, NamedCharged}
+use Rattle.record.specs.Allowance.{countOf, cost, charge, NumberedCharged, NamedCharged, ceiling, isOver}
 use Rattle.record.proofs.Allowance.{cost-replied, charge-spent, charge-fits}
 use Rattle.steps.specs.Counting.{Takes, left}
 use Rattle.steps.specs.declared.Steps.{Steps}
@@ -46,3 +48,19 @@ module _ (steps : ℕ) (work : Answer ℕ) {r : Steps} (takes : Takes (countOf w
     pub name-spent : (a : Answer Text) {b b′ : List ℕ} {reply : Reply} → Named (refusedBy TooManySteps) b reply b′
         → NamedCharged (charge steps work a) b reply b′ 0
     name-spent a says = rw (charge-spent steps work a (takes-spent takes e)) (record { named = says; leaves = refl })
+
+-- ---- What is within the ceiling of a listing
+
+-- By a bound of what is counted.
+pub few-fit : (work : Answer ℕ) → countOf work ≤ ceiling → isOver work ≡ false
+unfolding isOver
+few-fit work few = le-ltb ceiling (countOf work) few
+
+-- By what was counted of the ceiling.
+module _ (work : Answer ℕ) {r : Steps} (takes : Takes (countOf work) ceiling r) where
+  pub within-it : {rest : ℕ} → r ≡ Left rest → false ≡ isOver work
+  within-it e = let paid = takes-left takes e in sym (few-fit work (omega (arith, paid)))
+
+  pub beyond-it : r ≡ Spent → true ≡ isOver work
+  unfolding isOver
+  beyond-it e = sym (lt-ltb ceiling (countOf work) (takes-spent takes e))

@@ -12,7 +12,9 @@ ghost use Rattle.record.specs.Answers.{Numbered, classCount, classFlags, classN
 pub fn class_count(tables: &[u8], strings: &[u8], blob: &[u8], options: Options) -> Reply
     ensures { λ r. ⌜ Numbered (classCount (view options (now (tables .entry)) (now (strings .entry)) (now (blob .entry)))) r ⌝ }
 {
-    asks::ask_number(tables, strings, blob, options, NumberQuestion::ClassCount)
+    let count = NumberQuestion::ClassCount;
+    let asked = asks::ask_number(tables, strings, blob, options, 0, count);
+    asked.reply
 }
 
 // The flags of a class (II.23.1.15).
@@ -26,7 +28,8 @@ pub fn class_flags(
     ensures { λ r. ⌜ Numbered (classFlags (view options (now (tables .entry)) (now (strings .entry)) (now (blob .entry))) (class .0)) r ⌝ }
 {
     let flags = NumberQuestion::ClassFlags(class);
-    asks::ask_number(tables, strings, blob, options, flags)
+    let asked = asks::ask_number(tables, strings, blob, options, 0, flags);
+    asked.reply
 }
 
 // The full name of a class.
@@ -42,5 +45,6 @@ pub fn class_name(
         ⌜ Named (className v (class .0)) (now (buf .entry)) r (now (buf .exit)) ⌝ }
 {
     let name = NameQuestion::ClassName(class);
-    asks::ask_name(tables, strings, blob, options, name, buf)
+    let asked = asks::ask_name(tables, strings, blob, options, 0, name, buf);
+    asked.reply
 }

@@ -1,11 +1,15 @@
 // The library: every public call, from the crates that prove them. Each takes the streams as lent slices, opens them itself, has no
-// precondition, and says its entire reply and, for a name, the entire final buffer.
+// precondition, and says its entire reply and, for a name, the entire final buffer. The calls for base types and for what a signature says
+// count type bytes: they take an allowance of steps, and say what is left of it.
+use asks::Allowance;
+use asks::Question;
 use buffers::Reply;
 use classes::ClassNumber;
 use header::Options;
 use heaps::Heap;
 use questions::NameQuestion;
 use questions::NumberQuestion;
+use steps::Charged;
 use tables::Extents;
 ghost use mathlib.Core.Path.{_≡_};
 ghost use Rattle.buffers.specs.Replies.{Named};
@@ -13,8 +17,11 @@ ghost use Rattle.header.specs.Stream.{base};
 ghost use Rattle.heaps.specs.Lookups.{Looked};
 ghost use Rattle.tables.specs.Extents.{walkSays, walkOf};
 ghost use Rattle.record.specs.View.{view};
-ghost use Rattle.record.specs.Answers.{Numbered, numberAnswer, nameAnswer, classCount, classFlags, className, genericCount, genericName, baseCount, baseName, methodCount, methodFlags, methodName, methodGenericCount, methodGenericName, returnType, parameterCount, parameterType, parameterName};
+ghost use Rattle.record.specs.Answers.{Numbered, classCount, classFlags, className, genericCount, genericName, methodCount, methodFlags, methodName, methodGenericCount, methodGenericName};
+ghost use Rattle.record.specs.Answers.{BaseCount, BaseName, ReturnType, ParameterCount, ParameterType, ParameterName};
+ghost use Rattle.record.specs.Allowance.{numberCharged, nameCharged, NumberedCharged, NamedCharged};
 ghost use Rattle.questions.specs.Questions.{numberCall, nameCall};
+ghost use Rattle.asks.specs.Asked.{Asked};
 
 // The walk of the base.
 pub fn walk(tables: &[u8]) -> Extents
@@ -123,11 +130,13 @@ pub fn base_count(
     strings: &[u8],
     blob: &[u8],
     options: Options,
+    steps: u64,
     class: ClassNumber,
-) -> Reply
-    ensures { λ r. ⌜ Numbered (baseCount (view options (now (tables .entry)) (now (strings .entry)) (now (blob .entry))) (class .0)) r ⌝ }
+) -> Charged
+    ensures { λ r. let v = view options (now (tables .entry)) (now (strings .entry)) (now (blob .entry)) in
+        ⌜ NumberedCharged (numberCharged (BaseCount (class .0)) v steps) (r .reply) (r .left) ⌝ }
 {
-    base_calls::base_count(tables, strings, blob, options, class)
+    base_calls::base_count(tables, strings, blob, options, steps, class)
 }
 
 // The name of base type b of a class.
@@ -136,14 +145,15 @@ pub fn base_name(
     strings: &[u8],
     blob: &[u8],
     options: Options,
+    steps: u64,
     class: ClassNumber,
     b: u32,
     buf: &mut [u8],
-) -> Reply
+) -> Charged
     ensures { λ r. let v = view options (now (tables .entry)) (now (strings .entry)) (now (blob .entry)) in
-        ⌜ Named (baseName v (class .0) b) (now (buf .entry)) r (now (buf .exit)) ⌝ }
+        ⌜ NamedCharged (nameCharged (BaseName (class .0) b) v steps) (now (buf .entry)) (r .reply) (now (buf .exit)) (r .left) ⌝ }
 {
-    base_calls::base_name(tables, strings, blob, options, class, b, buf)
+    base_calls::base_name(tables, strings, blob, options, steps, class, b, buf)
 }
 
 // How many methods a class has.
@@ -228,14 +238,15 @@ pub fn return_type(
     strings: &[u8],
     blob: &[u8],
     options: Options,
+    steps: u64,
     class: ClassNumber,
     m: u32,
     buf: &mut [u8],
-) -> Reply
+) -> Charged
     ensures { λ r. let v = view options (now (tables .entry)) (now (strings .entry)) (now (blob .entry)) in
-        ⌜ Named (returnType v (class .0) m) (now (buf .entry)) r (now (buf .exit)) ⌝ }
+        ⌜ NamedCharged (nameCharged (ReturnType (class .0) m) v steps) (now (buf .entry)) (r .reply) (now (buf .exit)) (r .left) ⌝ }
 {
-    signature_calls::return_type(tables, strings, blob, options, class, m, buf)
+    signature_calls::return_type(tables, strings, blob, options, steps, class, m, buf)
 }
 
 // How many parameters method m of a class has.
@@ -244,13 +255,14 @@ pub fn param_count(
     strings: &[u8],
     blob: &[u8],
     options: Options,
+    steps: u64,
     class: ClassNumber,
     m: u32,
-) -> Reply
+) -> Charged
     ensures { λ r. let v = view options (now (tables .entry)) (now (strings .entry)) (now (blob .entry)) in
-        ⌜ Numbered (parameterCount v (class .0) m) r ⌝ }
+        ⌜ NumberedCharged (numberCharged (ParameterCount (class .0) m) v steps) (r .reply) (r .left) ⌝ }
 {
-    signature_calls::param_count(tables, strings, blob, options, class, m)
+    signature_calls::param_count(tables, strings, blob, options, steps, class, m)
 }
 
 // The type of parameter p of method m of a class.
@@ -259,15 +271,16 @@ pub fn param_type(
     strings: &[u8],
     blob: &[u8],
     options: Options,
+    steps: u64,
     class: ClassNumber,
     m: u32,
     p: u32,
     buf: &mut [u8],
-) -> Reply
+) -> Charged
     ensures { λ r. let v = view options (now (tables .entry)) (now (strings .entry)) (now (blob .entry)) in
-        ⌜ Named (parameterType v (class .0) m p) (now (buf .entry)) r (now (buf .exit)) ⌝ }
+        ⌜ NamedCharged (nameCharged (ParameterType (class .0) m p) v steps) (now (buf .entry)) (r .reply) (now (buf .exit)) (r .left) ⌝ }
 {
-    signature_calls::param_type(tables, strings, blob, options, class, m, p, buf)
+    signature_calls::param_type(tables, strings, blob, options, steps, class, m, p, buf)
 }
 
 // The name of parameter p of method m of a class.
@@ -276,15 +289,16 @@ pub fn param_name(
     strings: &[u8],
     blob: &[u8],
     options: Options,
+    steps: u64,
     class: ClassNumber,
     m: u32,
     p: u32,
     buf: &mut [u8],
-) -> Reply
+) -> Charged
     ensures { λ r. let v = view options (now (tables .entry)) (now (strings .entry)) (now (blob .entry)) in
-        ⌜ Named (parameterName v (class .0) m p) (now (buf .entry)) r (now (buf .exit)) ⌝ }
+        ⌜ NamedCharged (nameCharged (ParameterName (class .0) m p) v steps) (now (buf .entry)) (r .reply) (now (buf .exit)) (r .left) ⌝ }
 {
-    signature_calls::param_name(tables, strings, blob, options, class, m, p, buf)
+    signature_calls::param_name(tables, strings, blob, options, steps, class, m, p, buf)
 }
 
 // Any call for a number, as a question.
@@ -293,12 +307,13 @@ pub fn ask_number(
     strings: &[u8],
     blob: &[u8],
     options: Options,
+    steps: u64,
     question: NumberQuestion,
-) -> Reply
+) -> Charged
     ensures { λ r. let v = view options (now (tables .entry)) (now (strings .entry)) (now (blob .entry)) in
-        ⌜ Numbered (numberAnswer (numberCall question) v) r ⌝ }
+        ⌜ NumberedCharged (numberCharged (numberCall question) v steps) (r .reply) (r .left) ⌝ }
 {
-    asks::ask_number(tables, strings, blob, options, question)
+    asks::ask_number(tables, strings, blob, options, steps, question)
 }
 
 // Any call for a name, as a question.
@@ -307,11 +322,28 @@ pub fn ask_name(
     strings: &[u8],
     blob: &[u8],
     options: Options,
+    steps: u64,
     question: NameQuestion,
+    buf: &mut [u8],
+) -> Charged
+    ensures { λ r. let v = view options (now (tables .entry)) (now (strings .entry)) (now (blob .entry)) in
+        ⌜ NamedCharged (nameCharged (nameCall question) v steps) (now (buf .entry)) (r .reply) (now (buf .exit)) (r .left) ⌝ }
+{
+    asks::ask_name(tables, strings, blob, options, steps, question, buf)
+}
+
+// Any call, within an allowance that the caller lends. A call for a number clears the buffer.
+pub fn ask_within(
+    tables: &[u8],
+    strings: &[u8],
+    blob: &[u8],
+    options: Options,
+    allowance: &mut Allowance,
+    question: Question,
     buf: &mut [u8],
 ) -> Reply
     ensures { λ r. let v = view options (now (tables .entry)) (now (strings .entry)) (now (blob .entry)) in
-        ⌜ Named (nameAnswer (nameCall question) v) (now (buf .entry)) r (now (buf .exit)) ⌝ }
+        ⌜ Asked v question (now (allowance .entry) .left) (now (buf .entry)) (now (buf .exit)) r (now (allowance .exit) .left) ⌝ }
 {
-    asks::ask_name(tables, strings, blob, options, question, buf)
+    asks::ask_within(tables, strings, blob, options, allowance, question, buf)
 }

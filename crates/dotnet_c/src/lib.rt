@@ -1,6 +1,6 @@
 // The library for C: each public call of `dotnet`, any call by the number of its question, the listing by pieces, and the type-name
 // section, as include/dotnet_tables.h declares them. The options are a set of bits, the numbers of classes, methods, generics, base types and
-// parameters are plain, and every answer is a struct of numbers.
+// parameters are plain, and every answer is a struct of numbers. A call that counts is lent the allowance, and leaves there what is left.
 use buffers::Reason;
 use c_listing::DnCursor;
 use c_listing::DnPiece;
@@ -13,10 +13,12 @@ use classes::ClassNumber;
 ghost use mathlib.Core.Path.{_≡_};
 ghost use Rattle.tables.specs.Extents.{walkOf};
 ghost use Rattle.record.specs.View.{view};
-ghost use Rattle.record.specs.Answers.{classCount, classFlags, className, genericCount, genericName, baseCount, baseName, methodCount, methodFlags, methodName, methodGenericCount, methodGenericName, returnType, parameterCount, parameterType, parameterName};
+ghost use Rattle.record.specs.Answers.{classCount, classFlags, className, genericCount, genericName, methodCount, methodFlags, methodName, methodGenericCount, methodGenericName};
+ghost use Rattle.record.specs.Answers.{BaseCount, BaseName, ReturnType, ParameterCount, ParameterType, ParameterName};
+ghost use Rattle.record.specs.Allowance.{numberCharged, nameCharged};
 ghost use lib.ListN.{length, replicate};
 ghost use Rattle.listing_steps.specs.Filling.{pieceOf};
-ghost use Rattle.c_replies.specs.Told.{theVersion, told, ToldName, toldLookup, toldExtent};
+ghost use Rattle.c_replies.specs.Told.{theVersion, told, ToldName, ToldNumberCharged, ToldNameCharged, toldLookup, toldExtent};
 ghost use Rattle.c_questions.specs.Asked.{optionsOf, numberAsked, nameAsked, askedNumber, askedName};
 ghost use Rattle.c_listing.specs.Told.{cursorOf, ToldPiece};
 ghost use Rattle.name_section.specs.Section.{names};
@@ -187,18 +189,23 @@ pub extern "C" fn dn_base_count(
     strings: &[u8],
     blob: &[u8],
     options: u32,
+    steps: &mut u64,
     class: u32,
 ) -> DnReply
     ensures { λ r. let v = view (optionsOf options) (now (tables .entry)) (now (strings .entry)) (now (blob .entry)) in
-        ⌜ r ≡ told (baseCount v class) ⌝ }
+        ⌜ ToldNumberCharged (numberCharged (BaseCount class) v (now (steps .entry))) r (now (steps .exit)) ⌝ }
 {
-    c_replies::reply_of(dotnet::base_count(
-        tables,
-        strings,
-        blob,
-        options_of(options),
-        ClassNumber(class),
-    ))
+    c_replies::reply_charged(
+        dotnet::base_count(
+            tables,
+            strings,
+            blob,
+            options_of(options),
+            *steps,
+            ClassNumber(class),
+        ),
+        steps,
+    )
 }
 
 // The name of base type b of a class.
@@ -208,22 +215,27 @@ pub extern "C" fn dn_base_name(
     strings: &[u8],
     blob: &[u8],
     options: u32,
+    steps: &mut u64,
     class: u32,
     b: u32,
     buf: &mut [u8],
 ) -> DnReply
     ensures { λ r. let v = view (optionsOf options) (now (tables .entry)) (now (strings .entry)) (now (blob .entry)) in
-        ⌜ ToldName (baseName v class b) (now (buf .entry)) r (now (buf .exit)) ⌝ }
+        ⌜ ToldNameCharged (nameCharged (BaseName class b) v (now (steps .entry))) (now (buf .entry)) r (now (buf .exit)) (now (steps .exit)) ⌝ }
 {
-    c_replies::reply_of(dotnet::base_name(
-        tables,
-        strings,
-        blob,
-        options_of(options),
-        ClassNumber(class),
-        b,
-        buf,
-    ))
+    c_replies::reply_charged(
+        dotnet::base_name(
+            tables,
+            strings,
+            blob,
+            options_of(options),
+            *steps,
+            ClassNumber(class),
+            b,
+            buf,
+        ),
+        steps,
+    )
 }
 
 // How many methods a class has.
@@ -352,22 +364,27 @@ pub extern "C" fn dn_return_type(
     strings: &[u8],
     blob: &[u8],
     options: u32,
+    steps: &mut u64,
     class: u32,
     m: u32,
     buf: &mut [u8],
 ) -> DnReply
     ensures { λ r. let v = view (optionsOf options) (now (tables .entry)) (now (strings .entry)) (now (blob .entry)) in
-        ⌜ ToldName (returnType v class m) (now (buf .entry)) r (now (buf .exit)) ⌝ }
+        ⌜ ToldNameCharged (nameCharged (ReturnType class m) v (now (steps .entry))) (now (buf .entry)) r (now (buf .exit)) (now (steps .exit)) ⌝ }
 {
-    c_replies::reply_of(dotnet::return_type(
-        tables,
-        strings,
-        blob,
-        options_of(options),
-        ClassNumber(class),
-        m,
-        buf,
-    ))
+    c_replies::reply_charged(
+        dotnet::return_type(
+            tables,
+            strings,
+            blob,
+            options_of(options),
+            *steps,
+            ClassNumber(class),
+            m,
+            buf,
+        ),
+        steps,
+    )
 }
 
 // How many parameters method m of a class has.
@@ -377,20 +394,25 @@ pub extern "C" fn dn_param_count(
     strings: &[u8],
     blob: &[u8],
     options: u32,
+    steps: &mut u64,
     class: u32,
     m: u32,
 ) -> DnReply
     ensures { λ r. let v = view (optionsOf options) (now (tables .entry)) (now (strings .entry)) (now (blob .entry)) in
-        ⌜ r ≡ told (parameterCount v class m) ⌝ }
+        ⌜ ToldNumberCharged (numberCharged (ParameterCount class m) v (now (steps .entry))) r (now (steps .exit)) ⌝ }
 {
-    c_replies::reply_of(dotnet::param_count(
-        tables,
-        strings,
-        blob,
-        options_of(options),
-        ClassNumber(class),
-        m,
-    ))
+    c_replies::reply_charged(
+        dotnet::param_count(
+            tables,
+            strings,
+            blob,
+            options_of(options),
+            *steps,
+            ClassNumber(class),
+            m,
+        ),
+        steps,
+    )
 }
 
 // The type of parameter p of method m of a class.
@@ -400,24 +422,29 @@ pub extern "C" fn dn_param_type(
     strings: &[u8],
     blob: &[u8],
     options: u32,
+    steps: &mut u64,
     class: u32,
     m: u32,
     p: u32,
     buf: &mut [u8],
 ) -> DnReply
     ensures { λ r. let v = view (optionsOf options) (now (tables .entry)) (now (strings .entry)) (now (blob .entry)) in
-        ⌜ ToldName (parameterType v class m p) (now (buf .entry)) r (now (buf .exit)) ⌝ }
+        ⌜ ToldNameCharged (nameCharged (ParameterType class m p) v (now (steps .entry))) (now (buf .entry)) r (now (buf .exit)) (now (steps .exit)) ⌝ }
 {
-    c_replies::reply_of(dotnet::param_type(
-        tables,
-        strings,
-        blob,
-        options_of(options),
-        ClassNumber(class),
-        m,
-        p,
-        buf,
-    ))
+    c_replies::reply_charged(
+        dotnet::param_type(
+            tables,
+            strings,
+            blob,
+            options_of(options),
+            *steps,
+            ClassNumber(class),
+            m,
+            p,
+            buf,
+        ),
+        steps,
+    )
 }
 
 // The name of parameter p of method m of a class.
@@ -427,24 +454,29 @@ pub extern "C" fn dn_param_name(
     strings: &[u8],
     blob: &[u8],
     options: u32,
+    steps: &mut u64,
     class: u32,
     m: u32,
     p: u32,
     buf: &mut [u8],
 ) -> DnReply
     ensures { λ r. let v = view (optionsOf options) (now (tables .entry)) (now (strings .entry)) (now (blob .entry)) in
-        ⌜ ToldName (parameterName v class m p) (now (buf .entry)) r (now (buf .exit)) ⌝ }
+        ⌜ ToldNameCharged (nameCharged (ParameterName class m p) v (now (steps .entry))) (now (buf .entry)) r (now (buf .exit)) (now (steps .exit)) ⌝ }
 {
-    c_replies::reply_of(dotnet::param_name(
-        tables,
-        strings,
-        blob,
-        options_of(options),
-        ClassNumber(class),
-        m,
-        p,
-        buf,
-    ))
+    c_replies::reply_charged(
+        dotnet::param_name(
+            tables,
+            strings,
+            blob,
+            options_of(options),
+            *steps,
+            ClassNumber(class),
+            m,
+            p,
+            buf,
+        ),
+        steps,
+    )
 }
 
 // Any call for a number, by the number of its question.
@@ -454,15 +486,19 @@ pub extern "C" fn dn_ask_number(
     strings: &[u8],
     blob: &[u8],
     options: u32,
+    steps: &mut u64,
     question: u32,
     a: u32,
     b: u32,
     c: u32,
 ) -> DnReply
     ensures { λ r. let v = view (optionsOf options) (now (tables .entry)) (now (strings .entry)) (now (blob .entry)) in
-        ⌜ r ≡ told (askedNumber (numberAsked question a b) v) ⌝ }
+        ⌜ ToldNumberCharged (askedNumber (numberAsked question a b) v (now (steps .entry))) r (now (steps .exit)) ⌝ }
 {
-    c_asks::ask_number(tables, strings, blob, options, question, a, b, c)
+    c_replies::reply_charged(
+        c_asks::ask_number(tables, strings, blob, options, *steps, question, a, b, c),
+        steps,
+    )
 }
 
 // Any call for a name, by the number of its question.
@@ -472,6 +508,7 @@ pub extern "C" fn dn_ask_name(
     strings: &[u8],
     blob: &[u8],
     options: u32,
+    steps: &mut u64,
     question: u32,
     a: u32,
     b: u32,
@@ -479,9 +516,23 @@ pub extern "C" fn dn_ask_name(
     buf: &mut [u8],
 ) -> DnReply
     ensures { λ r. let v = view (optionsOf options) (now (tables .entry)) (now (strings .entry)) (now (blob .entry)) in
-        ⌜ ToldName (askedName (nameAsked question a b c) v) (now (buf .entry)) r (now (buf .exit)) ⌝ }
+        ⌜ ToldNameCharged (askedName (nameAsked question a b c) v (now (steps .entry))) (now (buf .entry)) r (now (buf .exit)) (now (steps .exit)) ⌝ }
 {
-    c_asks::ask_name(tables, strings, blob, options, question, a, b, c, buf)
+    c_replies::reply_charged(
+        c_asks::ask_name(
+            tables,
+            strings,
+            blob,
+            options,
+            *steps,
+            question,
+            a,
+            b,
+            c,
+            buf,
+        ),
+        steps,
+    )
 }
 
 // A piece of the listing: as many whole lines from a cursor on as the buffer holds. The lent words are there for speed alone, and zero

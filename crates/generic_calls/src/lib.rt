@@ -20,7 +20,8 @@ pub fn generic_count(
         ⌜ Numbered (genericCount v (class .0)) r ⌝ }
 {
     let count = NumberQuestion::GenericCount(class);
-    asks::ask_number(tables, strings, blob, options, count)
+    let asked = asks::ask_number(tables, strings, blob, options, 0, count);
+    asked.reply
 }
 
 // The name of generic parameter g of a class.
@@ -37,5 +38,6 @@ pub fn generic_name(
         ⌜ Named (genericName v (class .0) g) (now (buf .entry)) r (now (buf .exit)) ⌝ }
 {
     let name = NameQuestion::GenericName(class, g);
-    asks::ask_name(tables, strings, blob, options, name, buf)
+    let asked = asks::ask_name(tables, strings, blob, options, 0, name, buf);
+    asked.reply
 }

@@ -15,11 +15,11 @@ use Rattle.numbers.specs.Parts.{part}
 use Rattle.buffers.specs.Texts.{Text, q}
 use Rattle.buffers.specs.Writes.{Wrote, Kept}
 use Rattle.buffers.specs.Replies.{number, Refused, Answer, refused, refusedBy, value}
-use Rattle.buffers.specs.declared.Refusal.the-variants.{NoSuchRow, NoName}
+use Rattle.buffers.specs.declared.Refusal.the-variants.{NoSuchRow, NoName, TooManySteps}
 use Rattle.buffers.specs.declared.Reason.the-variants.{Untold}
 use Rattle.buffers.proofs.Writing.{wrote-then, wrote-kept, kept-wrote, wrote-anew, wrote-part}
 use Rattle.escapes.specs.Escapes.{escaped, longest, shown}
-use Rattle.lines.specs.Lines.{nameRoom, line, missingLine, nameLine, hasLine}
+use Rattle.lines.specs.Lines.{nameRoom, line, spentLine, missingLine, nameLine, goesOn}
 
 -- What is shown of a name, by its length.
 shown-short : (t : Text) → length t ≤ longest → shown t ≡ escaped t
@@ -37,8 +37,8 @@ module _ {o o₁ o₂ : List ℕ} {at start : ℕ} {key : Text} (k : Wrote o at 
   then-line u w = wrote-then (kept-wrote k kept) w
 
 module _ {o o₁ o₂ : List ℕ} {at start end : ℕ} {key t : Text} (k : Wrote o at key o₁ start) (w : Wrote o₁ start t o₂ end) where
-  pub ends-long : {o₃ : List ℕ} {at′ : ℕ} → longest < length t → Wrote o₂ start (q "!\n") o₃ at′ → Wrote o at (line key (shown t)) o₃ at′
-  ends-long h x = rw (shown-long t h) (then-line k (w .keeps) (q "!") x)
+  pub ends-long : {o₃ : List ℕ} {at′ : ℕ} → longest < length t → Wrote o at (spentLine key) o₃ at′ → Wrote o at (line key (shown t)) o₃ at′
+  ends-long h x = rw (shown-long t h) x
 
   -- How long the name is, where there is room for the longest.
   pub is-long : start + nameRoom ≤ length o₂ → longest < end - start → longest < length t
@@ -59,15 +59,20 @@ module _ {o o₁ o₂ : List ℕ} {at start end : ℕ} {key t : Text} (k : Wrote
 -- The line of an answer, and whether there is one.
 module _ (key : Text) {a : Answer Text} {o o′ : List ℕ} {at at′ : ℕ} where
   pub line-of-name : {t : Text} → a ≡ value t → Wrote o at (line key (shown t)) o′ at′
-      → Wrote o at (nameLine key a) o′ at′ × (true ≡ hasLine a)
+      → Wrote o at (nameLine key a) o′ at′ × (true ≡ goesOn a)
   line-of-name is w = (rw is w, rw is)
 
   pub line-of-missing : {r : Refused} → a ≡ refused r → r .number ≡ number (NoName Untold) → Wrote o at (line key []) o′ at′
-      → Wrote o at (nameLine key a) o′ at′ × (true ≡ hasLine a)
+      → Wrote o at (nameLine key a) o′ at′ × (true ≡ goesOn a)
   unfolding missingLine
   line-of-missing is five w = (rw (is, five) w, rw (is, five))
 
   pub line-of-none : a ≡ refusedBy NoSuchRow → {o₁ o₂ : List ℕ} {start : ℕ} → Wrote o at key o₁ start → Kept o₁ start o₂
-      → Wrote o₂ at [] o′ at′ → Wrote o at (nameLine key a) o′ at′ × (false ≡ hasLine a)
+      → Wrote o₂ at [] o′ at′ → Wrote o at (nameLine key a) o′ at′ × (false ≡ goesOn a)
   unfolding missingLine
   line-of-none is k kept w = (rw is (wrote-anew (wrote-kept k kept) w), rw is)
+
+  -- Beyond the ceiling.
+  pub line-of-spent : a ≡ refusedBy TooManySteps → Wrote o at (spentLine key) o′ at′ → Wrote o at (nameLine key a) o′ at′ × (false ≡ goesOn a)
+  unfolding missingLine
+  line-of-spent is w = (rw is w, rw is)

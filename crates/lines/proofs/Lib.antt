@@ -3,3 +3,4 @@ pub mod Stepping
 pub mod Ending
 pub mod Reasons
 pub mod Breaks
+pub mod Ceiling

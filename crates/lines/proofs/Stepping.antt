@@ -1,6 +1,6 @@
 -- From what the code does at a place to a step of the definition: one law for each place. Assumes nothing.
-use mathlib.Core.Path.{_≡_, refl, _∙_, ap}
-use mathlib.Core.Bool.{Bool, true, false, cond}
+use mathlib.Core.Path.{_≡_, ap}
+use mathlib.Core.Bool.{cond}
 use mathlib.Core.List.{List, []}
 use Prim.Native.Nat.{ℕ}
 use Rattle.buffers.specs.Texts.{Text, q}
@@ -11,19 +11,17 @@ use Rattle.buffers.specs.declared.Reply.{Reply}
 use Rattle.buffers.specs.declared.Reply.the-variants.{Is, No}
 use Rattle.header.specs.declared.Options.{Options}
 use Rattle.record.specs.View.{View, viewOf, view}
-use Rattle.record.specs.Answers.{classCount, classFlags, className, genericName, baseName, methodName, methodFlags, methodGenericName, returnType, parameterType, parameterName}
+use Rattle.record.specs.Answers.{classCount, classFlags, methodFlags}
+use Rattle.record.specs.Answers.{ClassName, GenericName, BaseName, MethodName, MethodGenericName, ReturnType, ParameterType, ParameterName}
 use Rattle.tables.specs.Extents.{walkSays, walkOf}
 use Rattle.tables.specs.declared.Extents.{Extents}
-use Rattle.lines.specs.Lines.{numberLine, refusedLine, answerLine, nameLine, hasLine}
+use Rattle.lines.specs.Lines.{numberLine, refusedLine, answerLine, nameLine, goesOn}
+use Rattle.record.specs.Allowance.{isOver}
+use Rattle.lines.specs.Ceiling.{listed}
 use Rattle.lines.specs.Cursors.{cursor, done, nextNumber, stopLine, afterStop, lineAt, nextAt, ShowsNumber, ShowsName, Went, Stepped}
 use Rattle.lines.specs.declared.Place.the-variants.{Stop, Classes, Class, Flags, Generic, Base, Method, MethodFlags, MethodGeneric, Returns, ParamType, ParamName, Done}
 use Rattle.lines.specs.declared.Cursor.{Cursor}
 use Rattle.lines.specs.declared.Step.{Step}
-
--- Where a name goes on alike, whether there is a line or not.
-either-way : (b : Bool) {x : Cursor} → x ≡ cond b x x
-either-way true = refl
-either-way false = refl
 
 -- The first line.
 module _ {r : Reply} {o o′ : List ℕ} {at : ℕ} where
@@ -53,8 +51,8 @@ module _ (v : View) (c : Cursor) where
   classes-shows e f = record { line = rw e; next = rw (e, f) }
 
   pub class-shows : {x y : Cursor} → c .place ≡ Class → x ≡ cursor Flags k 0 0 → y ≡ done
-      → ShowsName v c (q "class=") (className v k) x y
-  unfolding lineAt nextAt
+      → ShowsName v c (q "class=") (listed (ClassName k) v) x y
+  unfolding listed isOver lineAt nextAt
   class-shows e f g = record { line = rw e; next = rw (e, f, g) }
 
   pub flags-shows : {x : Cursor} → c .place ≡ Flags → x ≡ cursor Generic k 0 0 → ShowsNumber v c (q "flags=") (classFlags v k) x
@@ -62,18 +60,18 @@ module _ (v : View) (c : Cursor) where
   flags-shows e f = record { line = rw e; next = rw (e, f) }
 
   pub generic-shows : {j : ℕ} {x y : Cursor} → c .place ≡ Generic → j ≡ nextNumber (c .i) → x ≡ cursor Generic k 0 j
-      → y ≡ cursor Base k 0 0 → ShowsName v c (q "generic=") (genericName v k (c .i)) x y
-  unfolding lineAt nextAt
+      → y ≡ cursor Base k 0 0 → ShowsName v c (q "generic=") (listed (GenericName k (c .i)) v) x y
+  unfolding listed isOver lineAt nextAt
   generic-shows e n f g = record { line = rw e; next = rw (e, f, g, n) }
 
   pub base-shows : {j : ℕ} {x y : Cursor} → c .place ≡ Base → j ≡ nextNumber (c .i) → x ≡ cursor Base k 0 j
-      → y ≡ cursor Method k 0 0 → ShowsName v c (q "base=") (baseName v k (c .i)) x y
+      → y ≡ cursor Method k 0 0 → ShowsName v c (q "base=") (listed (BaseName k (c .i)) v) x y
   unfolding lineAt nextAt
   base-shows e n f g = record { line = rw e; next = rw (e, f, g, n) }
 
   pub method-shows : {j : ℕ} {x y : Cursor} → c .place ≡ Method → x ≡ cursor MethodFlags k (c .method) 0 → j ≡ nextNumber k
-      → y ≡ cursor Class j 0 0 → ShowsName v c (q "method=") (methodName v k (c .method)) x y
-  unfolding lineAt nextAt
+      → y ≡ cursor Class j 0 0 → ShowsName v c (q "method=") (listed (MethodName k (c .method)) v) x y
+  unfolding listed isOver lineAt nextAt
   method-shows e f n g = record { line = rw e; next = rw (e, f, g, n) }
 
   pub method-flags-shows : {x : Cursor} → c .place ≡ MethodFlags → x ≡ cursor MethodGeneric k (c .method) 0
@@ -83,24 +81,26 @@ module _ (v : View) (c : Cursor) where
 
   pub method-generic-shows : {j : ℕ} {x y : Cursor} → c .place ≡ MethodGeneric → j ≡ nextNumber (c .i)
       → x ≡ cursor MethodGeneric k (c .method) j → y ≡ cursor Returns k (c .method) 0
-      → ShowsName v c (q "mgeneric=") (methodGenericName v k (c .method) (c .i)) x y
-  unfolding lineAt nextAt
+      → ShowsName v c (q "mgeneric=") (listed (MethodGenericName k (c .method) (c .i)) v) x y
+  unfolding listed isOver lineAt nextAt
   method-generic-shows e n f g = record { line = rw e; next = rw (e, f, g, n) }
 
-  pub returns-shows : {x : Cursor} → c .place ≡ Returns → x ≡ cursor ParamType k (c .method) 0
-      → ShowsName v c (q "returns=") (returnType v k (c .method)) x x
+  pub returns-shows : {j : ℕ} {x y : Cursor} → c .place ≡ Returns → x ≡ cursor ParamType k (c .method) 0 → j ≡ nextNumber (c .method)
+      → y ≡ cursor Method k j 0 → ShowsName v c (q "returns=") (listed (ReturnType k (c .method)) v) x y
   unfolding lineAt nextAt
-  returns-shows e f = record { line = rw e; next = rw (e, f) (either-way (hasLine (returnType v k (c .method)))) }
+  returns-shows e f n g = record { line = rw e; next = rw (e, f, g, n) }
 
   pub param-type-shows : {j : ℕ} {x y : Cursor} → c .place ≡ ParamType → x ≡ cursor ParamName k (c .method) (c .i)
-      → j ≡ nextNumber (c .method) → y ≡ cursor Method k j 0 → ShowsName v c (q "ptype=") (parameterType v k (c .method) (c .i)) x y
+      → j ≡ nextNumber (c .method) → y ≡ cursor Method k j 0
+      → ShowsName v c (q "ptype=") (listed (ParameterType k (c .method) (c .i)) v) x y
   unfolding lineAt nextAt
   param-type-shows e f n g = record { line = rw e; next = rw (e, f, g, n) }
 
-  pub param-name-shows : {j : ℕ} {x : Cursor} → c .place ≡ ParamName → j ≡ nextNumber (c .i) → x ≡ cursor ParamType k (c .method) j
-      → ShowsName v c (q "pname=") (parameterName v k (c .method) (c .i)) x x
+  pub param-name-shows : {i j : ℕ} {x y : Cursor} → c .place ≡ ParamName → i ≡ nextNumber (c .i) → x ≡ cursor ParamType k (c .method) i
+      → j ≡ nextNumber (c .method) → y ≡ cursor Method k j 0
+      → ShowsName v c (q "pname=") (listed (ParameterName k (c .method) (c .i)) v) x y
   unfolding lineAt nextAt
-  param-name-shows e n f = record { line = rw e; next = rw (e, f, n) (either-way (hasLine (parameterName v k (c .method) (c .i)))) }
+  param-name-shows e m f n g = record { line = rw e; next = rw (e, f, g, m, n) }
 
 pub done-goes : (v : View) (c m i : ℕ) {o o′ : List ℕ} {at : ℕ} {s : Step} → s .next ≡ done → Wrote o at [] o′ (s .at)
     → Stepped v (cursor Done c m i) o at o′ s
@@ -113,5 +113,5 @@ module _ {v : View} {c : Cursor} {key : Text} {o o′ : List ℕ} {at : ℕ} {s 
   number-steps h w = rw (h .line, h .next) w
 
   pub name-steps : {a : Answer Text} {more past : Cursor} → ShowsName v c key a more past
-      → Went (nameLine key a) (cond (hasLine a) more past) o at o′ s → Stepped v c o at o′ s
+      → Went (nameLine key a) (cond (goesOn a) more past) o at o′ s → Stepped v c o at o′ s
   name-steps h w = rw (h .line, h .next) w

@@ -1,6 +1,7 @@
 -- The listing line by line: where it is, the line there, and where it goes on. A cursor has a place, which says what the next line is
 -- about, the class and the method that it is in, and the number of the item (generic parameter, base type, parameter) in these, all from
--- 0. No count is asked for: items are asked for in order until there is none.
+-- 0. No count is asked for: items are asked for in order until there is none. Beyond the ceiling a class goes on to its methods, and a method
+-- to the next one; so it is at every cursor, whether it was handed out or made up.
 use mathlib.Core.Path.{_≡_}
 use mathlib.Core.Bool.{cond}
 use mathlib.Core.List.{List, [], _++_}
@@ -9,8 +10,10 @@ use Rattle.buffers.specs.Texts.{Text, q}
 use Rattle.buffers.specs.Writes.{Wrote}
 use Rattle.buffers.specs.Replies.{Answer, refused, value}
 use Rattle.record.specs.View.{View}
-use Rattle.record.specs.Answers.{walkAnswer, classCount, classFlags, className, genericName, baseName, methodName, methodFlags, methodGenericName, returnType, parameterType, parameterName}
-use Rattle.lines.specs.Lines.{numberLine, refusedLine, answerLine, nameLine, hasLine}
+use Rattle.record.specs.Answers.{walkAnswer, classCount, classFlags, className, genericName, methodName, methodFlags, methodGenericName}
+use Rattle.record.specs.Answers.{BaseName, ReturnType, ParameterType, ParameterName}
+use Rattle.lines.specs.Lines.{numberLine, refusedLine, answerLine, nameLine, goesOn}
+use Rattle.lines.specs.Ceiling.{listed}
 use Rattle.lines.specs.declared.Place.{Place}
 use Rattle.lines.specs.declared.Place.the-variants.{Stop, Classes, Class, Flags, Generic, Base, Method, MethodFlags, MethodGeneric, Returns, ParamType, ParamName, Done}
 use Rattle.lines.specs.declared.Cursor.{Cursor}
@@ -45,29 +48,29 @@ placeLine v Classes c m i = answerLine (q "classes=") (classCount v)
 placeLine v Class c m i = nameLine (q "class=") (className v c)
 placeLine v Flags c m i = answerLine (q "flags=") (classFlags v c)
 placeLine v Generic c m i = nameLine (q "generic=") (genericName v c i)
-placeLine v Base c m i = nameLine (q "base=") (baseName v c i)
+placeLine v Base c m i = nameLine (q "base=") (listed (BaseName c i) v)
 placeLine v Method c m i = nameLine (q "method=") (methodName v c m)
 placeLine v MethodFlags c m i = answerLine (q "mflags=") (methodFlags v c m)
 placeLine v MethodGeneric c m i = nameLine (q "mgeneric=") (methodGenericName v c m i)
-placeLine v Returns c m i = nameLine (q "returns=") (returnType v c m)
-placeLine v ParamType c m i = nameLine (q "ptype=") (parameterType v c m i)
-placeLine v ParamName c m i = nameLine (q "pname=") (parameterName v c m i)
+placeLine v Returns c m i = nameLine (q "returns=") (listed (ReturnType c m) v)
+placeLine v ParamType c m i = nameLine (q "ptype=") (listed (ParameterType c m i) v)
+placeLine v ParamName c m i = nameLine (q "pname=") (listed (ParameterName c m i) v)
 placeLine v Done c m i = []
 
 -- Where it goes on.
 abbrev pub placeNext : View → Place → ℕ → ℕ → ℕ → Cursor
 placeNext v Stop c m i = afterStop (walkAnswer v .stop)
 placeNext v Classes c m i = cursor Class 0 0 0
-placeNext v Class c m i = cond (hasLine (className v c)) (cursor Flags c 0 0) done
+placeNext v Class c m i = cond (goesOn (className v c)) (cursor Flags c 0 0) done
 placeNext v Flags c m i = cursor Generic c 0 0
-placeNext v Generic c m i = cond (hasLine (genericName v c i)) (cursor Generic c 0 (nextNumber i)) (cursor Base c 0 0)
-placeNext v Base c m i = cond (hasLine (baseName v c i)) (cursor Base c 0 (nextNumber i)) (cursor Method c 0 0)
-placeNext v Method c m i = cond (hasLine (methodName v c m)) (cursor MethodFlags c m 0) (cursor Class (nextNumber c) 0 0)
+placeNext v Generic c m i = cond (goesOn (genericName v c i)) (cursor Generic c 0 (nextNumber i)) (cursor Base c 0 0)
+placeNext v Base c m i = cond (goesOn (listed (BaseName c i) v)) (cursor Base c 0 (nextNumber i)) (cursor Method c 0 0)
+placeNext v Method c m i = cond (goesOn (methodName v c m)) (cursor MethodFlags c m 0) (cursor Class (nextNumber c) 0 0)
 placeNext v MethodFlags c m i = cursor MethodGeneric c m 0
-placeNext v MethodGeneric c m i = cond (hasLine (methodGenericName v c m i)) (cursor MethodGeneric c m (nextNumber i)) (cursor Returns c m 0)
-placeNext v Returns c m i = cursor ParamType c m 0
-placeNext v ParamType c m i = cond (hasLine (parameterType v c m i)) (cursor ParamName c m i) (cursor Method c (nextNumber m) 0)
-placeNext v ParamName c m i = cursor ParamType c m (nextNumber i)
+placeNext v MethodGeneric c m i = cond (goesOn (methodGenericName v c m i)) (cursor MethodGeneric c m (nextNumber i)) (cursor Returns c m 0)
+placeNext v Returns c m i = cond (goesOn (listed (ReturnType c m) v)) (cursor ParamType c m 0) (cursor Method c (nextNumber m) 0)
+placeNext v ParamType c m i = cond (goesOn (listed (ParameterType c m i) v)) (cursor ParamName c m i) (cursor Method c (nextNumber m) 0)
+placeNext v ParamName c m i = cond (goesOn (listed (ParameterName c m i) v)) (cursor ParamType c m (nextNumber i)) (cursor Method c (nextNumber m) 0)
 placeNext v Done c m i = done
 
 unfoldable pub lineAt : View → Cursor → Text
@@ -84,7 +87,7 @@ pub record ShowsNumber (v : View) (c : Cursor) (key : Text) (a : Answer ℕ) (to
 -- It shows the name that is an answer. Where it goes on depends on whether there is a line.
 pub record ShowsName (v : View) (c : Cursor) (key : Text) (a : Answer Text) (more past : Cursor) : Type 0 where
   pub line : lineAt v c ≡ nameLine key a
-  pub next : nextAt v c ≡ cond (hasLine a) more past
+  pub next : nextAt v c ≡ cond (goesOn a) more past
 
 -- What a step does with a lent buffer: a line is appended, and the next cursor handed out.
 pub record Went (t : Text) (to : Cursor) (before : List ℕ) (at : ℕ) (after : List ℕ) (s : Step) : Type 0 where

@@ -1,4 +1,5 @@
 pub mod Lines
+pub mod Ceiling
 pub mod Listing
 pub mod Cursors
 pub mod Reasons

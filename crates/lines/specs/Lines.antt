@@ -8,7 +8,7 @@ use lib.Dec.{eqb}
 use Rattle.buffers.specs.Texts.{Text, q, decimal}
 use Rattle.buffers.specs.Replies.{number, Answer, refused, value}
 use Rattle.buffers.specs.declared.Reason.the-variants.{Untold}
-use Rattle.buffers.specs.declared.Refusal.the-variants.{NoName, BufferTooSmall}
+use Rattle.buffers.specs.declared.Refusal.the-variants.{NoName, BufferTooSmall, TooManySteps}
 use Rattle.escapes.specs.Escapes.{escaped, longest, shown}
 
 unfoldable pub line : Text → Text → Text
@@ -43,16 +43,21 @@ abbrev pub answerLine : Text → Answer ℕ → Text
 answerLine key (value n) = numberLine key n
 answerLine key (refused w) = []
 
--- The line of a name by its answer. 5 says that the name is missing, and 6 that it is too long. Any other number says that there is no
--- such row, and so no line.
+-- The line of a name by its answer. 5 says that the name is missing, 6 that it is too long, and 11 that it takes too many steps. Any other
+-- number says that there is no such row, and so no line.
+abbrev pub spentLine : Text → Text
+spentLine key = line key (q "!")
+
 unfoldable pub missingLine : Text → ℕ → Text
-missingLine key n = cond (eqb n (number (NoName Untold))) (line key []) (cond (eqb n (number BufferTooSmall)) (line key (q "!")) [])
+missingLine key n =
+    cond (eqb n (number (NoName Untold))) (line key [])
+    (cond (eqb n (number BufferTooSmall) || eqb n (number TooManySteps)) (spentLine key) [])
 
 abbrev pub nameLine : Text → Answer Text → Text
 nameLine key (value t) = line key (shown t)
 nameLine key (refused w) = missingLine key (w .number)
 
--- Whether a name's answer has a line.
-abbrev pub hasLine : {A : Type 0} → Answer A → Bool
-hasLine (value a) = true
-hasLine (refused w) = eqb (w .number) (number (NoName Untold)) || eqb (w .number) (number BufferTooSmall)
+-- Whether the listing goes on with what stands beside or behind a name: where its answer has a line, and not 11.
+abbrev pub goesOn : {A : Type 0} → Answer A → Bool
+goesOn (value a) = true
+goesOn (refused w) = eqb (w .number) (number (NoName Untold)) || eqb (w .number) (number BufferTooSmall)

@@ -4,6 +4,7 @@ use mathlib.Core.List.{List, map}
 use Prim.Native.Nat.{ℕ}
 use Rattle.buffers.specs.declared.Reason.the-variants.{Untold}
 use Rattle.heaps.specs.Lookups.{Name, found, missing}
+use Rattle.record.specs.View.{View}
 use Rattle.record.specs.Record.{Method, Class}
 use Rattle.lines.specs.Listing.{recordLines}
 
@@ -34,4 +35,4 @@ untoldClass c =
 
 -- "The listing text does not change": it shows no reason. With every reason forgotten it is the same text.
 abbrev pub ReasonsDoNotShow : Type 0
-ReasonsDoNotShow = (stop : ℕ) (l : List Class) → recordLines stop (map untoldClass l) ≡ recordLines stop l
+ReasonsDoNotShow = (v : View) (stop : ℕ) (l : List Class) → recordLines v stop (map untoldClass l) ≡ recordLines v stop l

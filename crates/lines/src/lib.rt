@@ -16,7 +16,7 @@ ghost use Rattle.buffers.specs.Texts.{Text};
 ghost use Rattle.buffers.specs.Writes.{Wrote, Kept};
 ghost use Rattle.buffers.specs.Replies.{number, replySays};
 ghost use Rattle.escapes.specs.Escapes.{shown};
-ghost use Rattle.lines.specs.Lines.{line, nameRoom, numberLine, refusedLine, answerLine};
+ghost use Rattle.lines.specs.Lines.{line, nameRoom, numberLine, spentLine, refusedLine, answerLine};
 ghost use Rattle.lines.specs.Cursors.{cursor, first, done, nextNumber, Went};
 
 // What ends a line.
@@ -118,6 +118,15 @@ pub fn push_number(out: &mut [u8], at: usize, key: &[u8], n: usize) -> usize
     put(out, end, LINE_END)
 }
 
+// End the line of a name that is too long, or takes too many steps: the mark stands behind its key.
+pub fn end_spent(out: &mut [u8], start: usize) -> usize
+    ensures { λ r.
+        ⌜ ((o o₁ : List ℕ) (at : ℕ) (key : Text) → Wrote o at key o₁ start → Kept o₁ start (now (out .entry)) → Wrote o at (spentLine key)
+        (now (out .exit)) r) ⌝ }
+{
+    push(out, start, b"!\n")
+}
+
 // End the line of a name that was written as it stands from one place to another, behind its key. There is room for a name that is not too
 // long.
 pub fn end_name(out: &mut [u8], start: usize, end: usize) -> usize
@@ -127,7 +136,7 @@ pub fn end_name(out: &mut [u8], start: usize, end: usize) -> usize
         (line key (shown t)) (now (out .exit)) r) ⌝ }
 {
     if LONGEST < end - start {
-        return push(out, start, b"!\n");
+        return end_spent(out, start);
     }
     let after = escapes::escape(out, start, end);
     put(out, after, LINE_END)

@@ -9,11 +9,12 @@ use Rattle.buffers.specs.Texts.{Text}
 use Rattle.buffers.specs.Writes.{Wrote, Kept}
 use Rattle.buffers.proofs.Writing.{wrote-anew}
 use Rattle.record.specs.View.{View}
-use Rattle.record.specs.Answers.{numberAnswer, nameAnswer}
+use Rattle.record.specs.Answers.{numberAnswer}
 use Rattle.questions.specs.Questions.{numberCall, nameCall}
 use Rattle.questions.specs.declared.NumberQuestion.{NumberQuestion}
 use Rattle.questions.specs.declared.NameQuestion.{NameQuestion}
-use Rattle.lines.specs.Lines.{nameRoom, lineRoom, answerLine, nameLine, hasLine}
+use Rattle.lines.specs.Lines.{nameRoom, lineRoom, answerLine, nameLine, goesOn}
+use Rattle.lines.specs.Ceiling.{listed}
 use Rattle.lines.specs.Cursors.{cursor, lineAt, nextAt, Went, Stepped}
 use Rattle.lines.specs.declared.Place.{Place}
 use Rattle.lines.specs.declared.Place.the-variants as place
@@ -62,13 +63,13 @@ module _ (c : Cursor) {l : Line} {o o′ o″ : List ℕ} {at : ℕ} {s : Step} 
   module _ {start : ℕ} {question : NameQuestion} {more past : Cursor} where
     named : (v : View) → Begun v c o at o′ (Name start question more past)
         → ((o : List ℕ) (key : Text) → Wrote o at key o′ start
-        → Went (nameLine key (nameAnswer (nameCall question) v)) (cond (hasLine (nameAnswer (nameCall question) v)) more past) o at o″ s)
+        → Went (nameLine key (listed (nameCall question) v)) (cond (goesOn (listed (nameCall question) v)) more past) o at o″ s)
         → Stepped v c o at o″ s
     named v (name key l w h) f = name-steps h (f _ key w)
 
     pub name-next : {v w : View} → v ≡ w → l ≡ Name start question more past
         → ((o : List ℕ) (key : Text) → Wrote o at key o′ start
-        → Went (nameLine key (nameAnswer (nameCall question) v)) (cond (hasLine (nameAnswer (nameCall question) v)) more past) o at o″ s)
+        → Went (nameLine key (listed (nameCall question) v)) (cond (goesOn (listed (nameCall question) v)) more past) o at o″ s)
         → Stepped w c o at o″ s
     name-next {v} same e f = at-view same c (named v (subst (Begun v c o at o′) e (begun v)) f)
 

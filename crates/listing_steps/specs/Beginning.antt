@@ -6,11 +6,12 @@ use lib.ListN.{length}
 use Rattle.buffers.specs.Texts.{Text}
 use Rattle.buffers.specs.Writes.{Wrote, Kept}
 use Rattle.record.specs.View.{View}
-use Rattle.record.specs.Answers.{numberAnswer, nameAnswer}
+use Rattle.record.specs.Answers.{numberAnswer}
 use Rattle.questions.specs.Questions.{numberCall, nameCall}
 use Rattle.questions.specs.declared.NumberQuestion.{NumberQuestion}
 use Rattle.questions.specs.declared.NameQuestion.{NameQuestion}
 use Rattle.lines.specs.Lines.{longestKey}
+use Rattle.lines.specs.Ceiling.{listed}
 use Rattle.lines.specs.Cursors.{ShowsNumber, ShowsName}
 use Rattle.lines.specs.declared.Place.the-variants as place
 use Rattle.lines.specs.declared.Cursor.{Cursor}
@@ -22,5 +23,5 @@ pub data Begun (v : View) (c : Cursor) (o : List ℕ) (at : ℕ) (o′ : List �
   number : {start : ℕ} {question : NumberQuestion} {next : Cursor} (key : Text) → Wrote o at key o′ start
       → ShowsNumber v c key (numberAnswer (numberCall question) v) next → Begun v c o at o′ (Number start question next)
   name : {start : ℕ} {question : NameQuestion} {more past : Cursor} (key : Text) → length key ≤ longestKey → Wrote o at key o′ start
-      → ShowsName v c key (nameAnswer (nameCall question) v) more past → Begun v c o at o′ (Name start question more past)
+      → ShowsName v c key (listed (nameCall question) v) more past → Begun v c o at o′ (Name start question more past)
   done : c .place ≡ place.Done → Kept o at o′ → Begun v c o at o′ Done

@@ -164,30 +164,24 @@ fn begin_line(out: &mut [u8], at: usize, c: Cursor) -> Line
             more: cursor_at(Place::MethodGeneric, class, m, next_number(i)),
             past: cursor_at(Place::Returns, class, m, 0),
         },
-        Place::Returns => {
-            let next = cursor_at(Place::ParamType, class, m, 0);
-            Line::Name {
-                start: push(out, at, b"returns="),
-                question: NameQuestion::ReturnType(class, m),
-                more: next,
-                past: next,
-            }
-        }
+        Place::Returns => Line::Name {
+            start: push(out, at, b"returns="),
+            question: NameQuestion::ReturnType(class, m),
+            more: cursor_at(Place::ParamType, class, m, 0),
+            past: cursor_at(Place::Method, class, next_number(m), 0),
+        },
         Place::ParamType => Line::Name {
             start: push(out, at, b"ptype="),
             question: NameQuestion::ParamType(class, m, i),
             more: cursor_at(Place::ParamName, class, m, i),
             past: cursor_at(Place::Method, class, next_number(m), 0),
         },
-        Place::ParamName => {
-            let next = cursor_at(Place::ParamType, class, m, next_number(i));
-            Line::Name {
-                start: push(out, at, b"pname="),
-                question: NameQuestion::ParamName(class, m, i),
-                more: next,
-                past: next,
-            }
-        }
+        Place::ParamName => Line::Name {
+            start: push(out, at, b"pname="),
+            question: NameQuestion::ParamName(class, m, i),
+            more: cursor_at(Place::ParamType, class, m, next_number(i)),
+            past: cursor_at(Place::Method, class, next_number(m), 0),
+        },
         Place::Done => Line::Done,
     }
 }

@@ -10,7 +10,7 @@ use types.Run.{OneOf, miss}
 use lib.Dec.{ltb}
 use lib.ListN.{length}
 use Rattle.buffers.specs.Texts.{Text}
-use Rattle.buffers.specs.Replies.{number, refusedBy}
+use Rattle.buffers.specs.Replies.{number, Answer, refusedBy}
 use Rattle.buffers.specs.declared.Refusal.{Refusal}
 use Rattle.buffers.specs.declared.Refusal.the-variants.{ShortHeader, ShortCounts, TooManyRows}
 use Rattle.buffers.proofs.Writing.{wrote-none}
@@ -22,12 +22,15 @@ use Rattle.tables.specs.Extents.{walkBy}
 use Rattle.record.specs.View.{View, view, viewOf}
 use Rattle.record.specs.Answers.{walkAnswer, NumberCall, ClassCount, ClassFlags, MethodFlags, numberAnswer, NameCall, ClassName, GenericName, BaseName, MethodName, MethodGenericName, ReturnType, ParameterType, ParameterName, nameAnswer}
 use Rattle.record.proofs.Laws.{opening-first}
-use Rattle.lines.specs.Lines.{answerLine, missingLine, nameLine, hasLine, refusedLine}
+use Rattle.record.specs.Allowance.{baseWork, methodWork, nameWork, countOf, isOver}
+use Rattle.lines.specs.Lines.{answerLine, missingLine, nameLine, goesOn, refusedLine}
 use Rattle.lines.specs.Cursors.{cursor, done, nextNumber, lineAt, nextAt, Went, Stepped}
 use Rattle.lines.specs.declared.Place.{Place}
 use Rattle.lines.specs.declared.Place.the-variants as at
 use Rattle.lines.specs.declared.Cursor.{Cursor}
 use Rattle.lines.specs.declared.Step.{Step}
+use Rattle.lines.specs.Ceiling.{listed}
+use Rattle.lines.proofs.Ceiling.{listed-within}
 use Rattle.lines.proofs.Place.{the-type}
 use Rattle.listing_steps.specs.Filling.{isDone, Piece, pieceFrom, pieceOf, mostSteps, Pieced}
 use Rattle.listing_steps.proofs.Filling.{is-done, goes-on, going-start, going-out, going-done, going-full, going-on}
@@ -66,13 +69,35 @@ module _ (o : Options) (t strings blob : List ℕ) {why : Refusal} (e : opened o
   unfolding viewOf missingLine
   no-name call key =
       let low = few o t e in
-      rw (opening-first v why e .1 call, ne-eqb (number why) 5 (λ z. omega arith), ne-eqb (number why) 6 (λ z. omega arith))
+      rw (opening-first v why e .1 call, ne-eqb (number why) 5 (λ z. omega arith), ne-eqb (number why) 6 (λ z. omega arith), ne-eqb (number why) 11 (λ z. omega arith))
 
-  passes : (call : NameCall) (x y : Cursor) → cond (hasLine (nameAnswer call v)) x y ≡ y
+  passes : (call : NameCall) (x y : Cursor) → cond (goesOn (nameAnswer call v)) x y ≡ y
   unfolding viewOf
   passes call x y =
       let low = few o t e in
       rw (opening-first v why e .1 call, ne-eqb (number why) 5 (λ z. omega arith), ne-eqb (number why) 6 (λ z. omega arith))
+
+  -- Nothing is counted, so nothing is beyond the ceiling.
+  counts-nothing : (call : NameCall) → countOf (nameWork call v) ≡ 0
+  unfolding viewOf baseWork methodWork
+  counts-nothing (ClassName c) = refl
+  counts-nothing (GenericName c g) = refl
+  counts-nothing (BaseName c b) = rw e
+  counts-nothing (MethodName c m) = refl
+  counts-nothing (MethodGenericName c m g) = refl
+  counts-nothing (ReturnType c m) = rw e
+  counts-nothing (ParameterType c m p) = rw e
+  counts-nothing (ParameterName c m p) = rw e
+
+  is-plain : (call : NameCall) → listed call v ≡ nameAnswer call v
+  unfolding isOver
+  is-plain call = listed-within call v (rw (counts-nothing call))
+
+  no-listed : (call : NameCall) (key : Text) → nameLine key (listed call v) ≡ []
+  no-listed call key = ap (nameLine key) (is-plain call) ∙ no-name call key
+
+  passes-listed : (call : NameCall) (x y : Cursor) → cond (goesOn (listed call v)) x y ≡ y
+  passes-listed call x y = ap (λ (a : Answer Text). cond (goesOn a) x y) (is-plain call) ∙ passes call x y
 
   stop-is : walkAnswer v .stop ≡ refusedBy why
   unfolding viewOf walkBy
@@ -105,7 +130,7 @@ module _ (o : Options) (t strings blob : List ℕ) {why : Refusal} (e : opened o
 
     ends-base : (c m i : ℕ) → Ends 3 (cursor at.Base c m i)
     unfolding lineAt nextAt
-    ends-base c m i = skips _ _ refl (no-name (BaseName c i) _) (passes (BaseName c i) _ _) (ends-method c 0 0)
+    ends-base c m i = skips _ _ refl (no-listed (BaseName c i) _) (passes-listed (BaseName c i) _ _) (ends-method c 0 0)
 
     ends-generic : (c m i : ℕ) → Ends 4 (cursor at.Generic c m i)
     unfolding lineAt nextAt
@@ -117,30 +142,30 @@ module _ (o : Options) (t strings blob : List ℕ) {why : Refusal} (e : opened o
 
     ends-param-type : (c m i : ℕ) → Ends 3 (cursor at.ParamType c m i)
     unfolding lineAt nextAt
-    ends-param-type c m i = skips _ _ refl (no-name (ParameterType c m i) _) (passes (ParameterType c m i) _ _) (ends-method c (nextNumber m) 0)
+    ends-param-type c m i = skips _ _ refl (no-listed (ParameterType c m i) _) (passes-listed (ParameterType c m i) _ _) (ends-method c (nextNumber m) 0)
 
-    ends-param-name : (c m i : ℕ) → Ends 4 (cursor at.ParamName c m i)
+    ends-param-name : (c m i : ℕ) → Ends 3 (cursor at.ParamName c m i)
     unfolding lineAt nextAt
-    ends-param-name c m i = skips _ _ refl (no-name (ParameterName c m i) _) refl (ends-param-type c m (nextNumber i))
+    ends-param-name c m i = skips _ _ refl (no-listed (ParameterName c m i) _) (passes-listed (ParameterName c m i) _ _) (ends-method c (nextNumber m) 0)
 
-    ends-returns : (c m i : ℕ) → Ends 4 (cursor at.Returns c m i)
+    ends-returns : (c m i : ℕ) → Ends 3 (cursor at.Returns c m i)
     unfolding lineAt nextAt
-    ends-returns c m i = skips _ _ refl (no-name (ReturnType c m) _) refl (ends-param-type c m 0)
+    ends-returns c m i = skips _ _ refl (no-listed (ReturnType c m) _) (passes-listed (ReturnType c m) _ _) (ends-method c (nextNumber m) 0)
 
-    ends-method-generic : (c m i : ℕ) → Ends 5 (cursor at.MethodGeneric c m i)
+    ends-method-generic : (c m i : ℕ) → Ends 4 (cursor at.MethodGeneric c m i)
     unfolding lineAt nextAt
     ends-method-generic c m i = skips _ _ refl (no-name (MethodGenericName c m i) _) (passes (MethodGenericName c m i) _ _) (ends-returns c m 0)
 
-    ends-method-flags : (c m i : ℕ) → Ends 6 (cursor at.MethodFlags c m i)
+    ends-method-flags : (c m i : ℕ) → Ends 5 (cursor at.MethodFlags c m i)
     unfolding lineAt nextAt
     ends-method-flags c m i = skips _ _ refl (no-number (MethodFlags c m) _) refl (ends-method-generic c m 0)
 
-    -- No place but the first and the last is more than six steps away.
-    elsewhere : (p : Place) (c m i : ℕ) → OneOf others (tagOf the-type p) → Ends 6 (cursor p c m i)
+    -- No place but the first and the last is more than five steps away.
+    elsewhere : (p : Place) (c m i : ℕ) → OneOf others (tagOf the-type p) → Ends 5 (cursor p c m i)
     elsewhere at.Stop c m i h = absurd (miss others 0 tt h)
     elsewhere at.Classes c m i h = λ n k. ends-classes c m i n (omega arith)
     elsewhere at.Class c m i h = λ n k. ends-class c m i n (omega arith)
-    elsewhere at.Flags c m i h = λ n k. ends-flags c m i n (omega arith)
+    elsewhere at.Flags c m i h = ends-flags c m i
     elsewhere at.Generic c m i h = λ n k. ends-generic c m i n (omega arith)
     elsewhere at.Base c m i h = λ n k. ends-base c m i n (omega arith)
     elsewhere at.Method c m i h = λ n k. ends-method c m i n (omega arith)

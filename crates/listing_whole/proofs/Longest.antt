@@ -1,6 +1,7 @@
 -- No line is longer than the longest: a key has at most nine bytes, a name that is shown at most 4,096, each of them written as three at
 -- most, and a number ten digits, since none needs more than 32 bits. Assumes nothing.
 use mathlib.Core.Path.{_≡_, refl}
+use mathlib.Core.Bool.{_||_}
 use mathlib.Core.List.{List, [], _∷_, _++_}
 use mathlib.Core.Option.{Option, none, some}
 use Prim.Native.Nat.{ℕ, zero, suc, _+_, _-_, _*_, _/_, _%_, _^_, _<_, _≤_}
@@ -29,10 +30,11 @@ use Rattle.record.specs.View.{View, view, viewOf, place, otherRow, isSide}
 use Rattle.record.specs.Names.{classes, sizesOf, numberIn}
 use Rattle.record.specs.Methods.{leftAfter}
 use Rattle.record.specs.Record.{Method, Class, method, class, classRecord}
-use Rattle.record.specs.Answers.{_⟫_, ready, orNoRow, item, theClasses, theClass, theMethod, classCount, classFlags, className, genericName, baseName, methodName, methodFlags, methodGenericName, returnType, parameterType, parameterName}
+use Rattle.record.specs.Answers.{_⟫_, ready, orNoRow, item, theClasses, theClass, theMethod, classCount, classFlags, className, genericName, methodName, methodFlags, methodGenericName, BaseName, ReturnType, ParameterType, ParameterName}
 use Rattle.escapes.specs.Escapes.{longest, shown}
 use Rattle.escapes.proofs.Apart.{numbers-stand, three-at-most}
 use Rattle.lines.specs.Lines.{line, numberLine, answerLine, missingLine, nameLine}
+use Rattle.lines.specs.Ceiling.{listed}
 use Rattle.lines.specs.Cursors.{stopLine, placeLine, lineAt}
 use Rattle.lines.specs.declared.Place.{Place}
 use Rattle.lines.specs.declared.Place.the-variants as at
@@ -72,7 +74,7 @@ module _ (key : Text) (short : length key ≤ 9) where
       (pick-le (λ (x : Text). length x ≤ 3 * longest) (length t) longest (λ h. omega (arith, three-at-most t)) (λ _. omega arith))
   name-fits (refused w) =
       pick Fits (eqb (w .number) (number (NoName Untold))) (λ _. line-fits [] (omega arith))
-      (λ _. pick Fits (eqb (w .number) (number BufferTooSmall)) (λ _. line-fits (q "!") (omega arith)) (λ _. omega arith))
+      (λ _. pick Fits (eqb (w .number) (number BufferTooSmall) || eqb (w .number) (number TooManySteps)) (λ _. line-fits (q "!") (omega arith)) (λ _. omega arith))
 
   number-fits : (n : ℕ) → Narrow n → Fits (numberLine key n)
   number-fits n h = rw (numbers-stand n) (line-fits (decimal n) (omega (arith, decimal-few n h)))
@@ -217,13 +219,13 @@ module _ (t strings heap : List ℕ) (bytes : Bytes t) where
   place-fits at.Class c m i = name-fits (q "class=") (omega arith) (className v c)
   place-fits at.Flags c m i = answer-fits (q "flags=") (omega arith) (classFlags v c) (flags-narrow c)
   place-fits at.Generic c m i = name-fits (q "generic=") (omega arith) (genericName v c i)
-  place-fits at.Base c m i = name-fits (q "base=") (omega arith) (baseName v c i)
+  place-fits at.Base c m i = name-fits (q "base=") (omega arith) (listed (BaseName c i) v)
   place-fits at.Method c m i = name-fits (q "method=") (omega arith) (methodName v c m)
   place-fits at.MethodFlags c m i = answer-fits (q "mflags=") (omega arith) (methodFlags v c m) (method-flags-narrow c m)
   place-fits at.MethodGeneric c m i = name-fits (q "mgeneric=") (omega arith) (methodGenericName v c m i)
-  place-fits at.Returns c m i = name-fits (q "returns=") (omega arith) (returnType v c m)
-  place-fits at.ParamType c m i = name-fits (q "ptype=") (omega arith) (parameterType v c m i)
-  place-fits at.ParamName c m i = name-fits (q "pname=") (omega arith) (parameterName v c m i)
+  place-fits at.Returns c m i = name-fits (q "returns=") (omega arith) (listed (ReturnType c m) v)
+  place-fits at.ParamType c m i = name-fits (q "ptype=") (omega arith) (listed (ParameterType c m i) v)
+  place-fits at.ParamName c m i = name-fits (q "pname=") (omega arith) (listed (ParameterName c m i) v)
   place-fits at.Done c m i = omega arith
 
 pub lines-fit : LinesFit

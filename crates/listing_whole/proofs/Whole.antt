@@ -1,6 +1,6 @@
 -- The proof that the listing line by line is the listing, and in how many steps. Assumes nothing.
 use mathlib.Core.Path.{_≡_, refl, sym, _∙_, ap, subst}
-use mathlib.Core.Bool.{Bool, true, cond}
+use mathlib.Core.Bool.{Bool, true, false, cond}
 use mathlib.Core.List.{List, [], _∷_, _++_, append-assoc, append-nil}
 use mathlib.Core.Option.{Option, none, some}
 use Prim.Native.Nat.{ℕ, zero, suc, _+_, _*_, _<_, _≤_}
@@ -10,7 +10,7 @@ use Rattle.buffers.specs.Texts.{Text, q}
 use Rattle.buffers.specs.Replies as replies
 use Rattle.buffers.specs.Replies.{Answer, refused, refusedBy, value, nameOr5}
 use Rattle.buffers.specs.declared.Refusal.{Refusal}
-use Rattle.buffers.specs.declared.Refusal.the-variants.{NoSuchRow}
+use Rattle.buffers.specs.declared.Refusal.the-variants.{NoSuchRow, TooManySteps}
 use Rattle.heaps.specs.Lookups.{Name, found, missing, textOf, nameOrWhy}
 use Rattle.header.specs.declared.Opened.{Opened}
 use Rattle.header.specs.declared.Opened.the-variants.{Refused, Ready}
@@ -18,11 +18,14 @@ use Rattle.tables.specs.Extents.{walkBy}
 use Rattle.record.specs.View.{View}
 use Rattle.record.specs.Record.{Parameter, Method, Class, classRecord}
 use Rattle.record.specs.Answers.{walkAnswer, theClasses, theClass, theMethod, classCount, classFlags, className, genericName, baseName, methodName, methodFlags, methodGenericName, returnType, parameterType, parameterName}
-use Rattle.lines.specs.Lines.{valueLine, missingLine, refusedLine, answerLine, nameLine, hasLine}
-use Rattle.lines.specs.Listing.{each, parameterLines, methodLines, classLines, recordLines, listing}
+use Rattle.record.specs.Answers.{BaseName, ReturnType, ParameterType, ParameterName}
+use Rattle.record.specs.Allowance.{baseWork, methodWork, isOver}
+use Rattle.lines.specs.Lines.{valueLine, spentLine, missingLine, refusedLine, answerLine, nameLine, goesOn}
+use Rattle.lines.specs.Listing.{each, eachFrom, parameterLines, signatureLines, methodLines, baseLines, classLines, recordLines, listing}
 use Rattle.lines.specs.Cursors.{cursor, first, done, nextNumber, stopLine, afterStop, lineAt, nextAt, Steps, here, onward}
-use Rattle.lines.specs.declared.Place.the-variants.{Class as AtClass, Generic, Base, Method as AtMethod, MethodGeneric, ParamType}
+use Rattle.lines.specs.declared.Place.the-variants.{Class as AtClass, Generic, Base, Method as AtMethod, MethodGeneric, Returns, ParamType}
 use Rattle.lines.specs.declared.Cursor.{Cursor}
+use Rattle.lines.proofs.Ceiling.{listed-within, listed-beyond}
 
 -- Nothing that the record counts has more items than a table has rows, and one more for the type that a class extends. (Few.antt shows
 -- it.) So the listing has an end that can be counted to, and no number of a cursor comes near its 32 bits.
@@ -82,6 +85,36 @@ module _ {v : View} where
   items f at [] one past = fewer (omega arith) past
   items f at (a ∷ l) one past = fewer (omega arith) (then (one 0 a refl) (items f (λ i. at (suc i)) l (λ i b e. one (suc i) b e) past))
 
+  -- The same of items that are shown with their numbers.
+  items-from : {A : Type 0} (f : ℕ → A → Text) (at : ℕ → Cursor) {end : Cursor} {k m : ℕ} (j : ℕ) (l : List A)
+      → ((i : ℕ) (a : A) → getElem? l i ≡ some a → Within v k (at (j + i)) (f (j + i) a) (at (suc (j + i)))) → Within v m (at (j + length l)) [] end
+      → Within v (k * length l + m) (at j) (eachFrom f j l) end
+  unfolding eachFrom
+  items-from f at {end} {k} {m} j [] one past =
+      let here : j + 0 ≡ j = omega arith in
+      fewer (omega arith) (subst (λ (x : ℕ). Within v m (at x) [] end) here past)
+  items-from f at {end} {k} {m} j (a ∷ l) one past =
+      let here : j + 0 ≡ j = omega arith in
+      let next : suc (j + 0) ≡ j + 1 = omega arith in
+      let more : (i : ℕ) → j + suc i ≡ j + 1 + i = λ i. omega arith in
+      let step : Within v k (at j) (f j a) (at (j + 1)) =
+      subst (λ (x : ℕ). Within v k (at j) (f j a) (at x)) next (subst (λ (x : ℕ). Within v k (at x) (f x a) (at (suc (j + 0)))) here (one 0 a refl)) in
+      fewer (omega arith)
+      (then step
+      (items-from f at (j + 1) l
+      (λ i b e. subst (λ (x : ℕ). Within v k (at x) (f x b) (at (suc x))) (more i) (one (suc i) b e))
+      (subst (λ (x : ℕ). Within v m (at x) [] end) (more (length l)) past)))
+
+  -- From the first on.
+  numbered : {A : Type 0} (f : ℕ → A → Text) (at : ℕ → Cursor) {end : Cursor} {k m : ℕ} (l : List A)
+      → ((i : ℕ) (a : A) → getElem? l i ≡ some a → Within v k (at i) (f i a) (at (suc i))) → Within v m (at (length l)) [] end
+      → Within v (k * length l + m) (at 0) (eachFrom f 0 l) end
+  numbered f at {end} {k} {m} l one past =
+      let all : (i : ℕ) → i ≡ 0 + i = λ i. omega arith in
+      items-from f at 0 l
+      (λ i a e. subst (λ (x : ℕ). Within v k (at x) (f x a) (at (suc x))) (all i) (one i a e))
+      (subst (λ (x : ℕ). Within v m (at x) [] end) (all (length l)) past)
+
 -- An item of a list has a number below the list's length, and past the end there is none.
 pub item-below : {A : Type 0} (l : List A) (i : ℕ) {a : A} → getElem? l i ≡ some a → i < length l
 item-below [] i e = let z : _≡_ {A = ℕ} 0 1 = cc in absurd (omega arith)
@@ -98,7 +131,7 @@ next-few l i f e = omega (arith, item-below l i e)
 -- A name by its answer: its line, and that the listing goes on after it; and that past the last row it goes elsewhere.
 record Shown (o : Option Text) (a : Answer Text) : Type 0 where
   line : (key : Text) → nameLine key a ≡ valueLine key o
-  has : hasLine a ≡ true
+  has : goesOn a ≡ true
 
 shown-text : (o : Option Text) → Shown o (nameOr5 o)
 unfolding missingLine
@@ -115,16 +148,25 @@ module _ {o : Option Text} {x a : Answer Text} (s : Shown o x) (e : a ≡ x) whe
   told : (key : Text) → nameLine key a ≡ valueLine key o
   told key = ap (nameLine key) e ∙ s .line key
 
-  goes : (y z : Cursor) → cond (hasLine a) y z ≡ y
-  goes y z = ap (λ (b : Bool). cond b y z) (ap hasLine e ∙ s .has)
+  goes : (y z : Cursor) → cond (goesOn a) y z ≡ y
+  goes y z = ap (λ (b : Bool). cond b y z) (ap goesOn e ∙ s .has)
 
 module _ {a : Answer Text} (e : a ≡ refusedBy NoSuchRow) where
   untold : (key : Text) → nameLine key a ≡ []
   unfolding missingLine
   untold key = ap (nameLine key) e
 
-  leaves : (x y : Cursor) → cond (hasLine a) x y ≡ y
-  leaves x y = ap (λ (b : Bool). cond b x y) (ap hasLine e)
+  leaves : (x y : Cursor) → cond (goesOn a) x y ≡ y
+  leaves x y = ap (λ (b : Bool). cond b x y) (ap goesOn e)
+
+-- Beyond the ceiling there is the mark, and the listing goes on past what it is about.
+module _ {a : Answer Text} (e : a ≡ refusedBy TooManySteps) where
+  marked : (key : Text) → nameLine key a ≡ spentLine key
+  unfolding missingLine
+  marked key = ap (nameLine key) e
+
+  ends : (x y : Cursor) → cond (goesOn a) x y ≡ y
+  ends x y = ap (λ (b : Bool). cond b x y) (ap goesOn e)
 
 -- How many steps the lines of a method, of a class and of a record take: a step for each line, and one past the end of each list.
 abbrev methodSteps : ℕ
@@ -178,24 +220,40 @@ module _ (v : View) (c m : ℕ) (k : Method) (is : theMethod v c m ≡ value k) 
         single (told (shown-name n) (generic-at i e) (q "mgeneric="))
         (goes (shown-name n) (generic-at i e) _ _ ∙ ap (cursor MethodGeneric c m) (next-few (k .generics) i (few .generics) e))
 
-    parameter-steps : (i : ℕ) (p : Parameter) → getElem? (k .parameters) i ≡ some p
-        → Within v 2 (cursor ParamType c m i) (parameterLines p) (cursor ParamType c m (suc i))
-    unfolding parameterLines lineAt nextAt
-    parameter-steps i p e =
-        after (told (shown-text (p .type)) (type-at i e) (q "ptype=")) (goes (shown-text (p .type)) (type-at i e) _ _)
-        (single (told (shown-text (p .name)) (name-at i e) (q "pname=")) (ap (cursor ParamType c m) (next-few (k .parameters) i (few .parameters) e)))
+    module _ (within : isOver (methodWork v c m) ≡ false) where
+      parameter-steps : (i : ℕ) (p : Parameter) → getElem? (k .parameters) i ≡ some p
+          → Within v 2 (cursor ParamType c m i) (parameterLines p) (cursor ParamType c m (suc i))
+      unfolding parameterLines lineAt nextAt
+      parameter-steps i p e =
+          let type = listed-within (ParameterType c m i) v within ∙ type-at i e in
+          let name = listed-within (ParameterName c m i) v within ∙ name-at i e in
+          after (told (shown-text (p .type)) type (q "ptype=")) (goes (shown-text (p .type)) type _ _)
+          (single (told (shown-text (p .name)) name (q "pname="))
+          (goes (shown-text (p .name)) name _ _ ∙ ap (cursor ParamType c m) (next-few (k .parameters) i (few .parameters) e)))
 
-    method-steps : nextNumber m ≡ suc m → Within v methodSteps (cursor AtMethod c m 0) (methodLines k) (cursor AtMethod c (suc m) 0)
+    signature-steps : nextNumber m ≡ suc m → (over : Bool) → isOver (methodWork v c m) ≡ over
+        → Within v (2 * most + 2) (cursor Returns c m 0) (signatureLines over k) (cursor AtMethod c (suc m) 0)
+    unfolding signatureLines lineAt nextAt
+    signature-steps n true over =
+        let spent = listed-beyond (ReturnType c m) v over in
+        fewer (omega arith) (single (marked spent (q "returns=")) (ends spent _ _ ∙ ap (λ (x : ℕ). cursor AtMethod c x 0) n))
+    signature-steps n false within =
+        let type = listed-within (ReturnType c m) v within ∙ return-type in
+        let past = listed-within (ParameterType c m (length (k .parameters))) v within ∙ type-past in
+        fewer (omega (arith, few .parameters))
+        (after (told (shown-text (k .returns)) type (q "returns=")) (goes (shown-text (k .returns)) type _ _)
+        (items parameterLines (cursor ParamType c m) (k .parameters) (parameter-steps within)
+        (single (untold past (q "ptype=")) (leaves past _ _ ∙ ap (λ (x : ℕ). cursor AtMethod c x 0) n))))
+
+    method-steps : nextNumber m ≡ suc m → Within v methodSteps (cursor AtMethod c m 0) (methodLines v c m k) (cursor AtMethod c (suc m) 0)
     unfolding methodLines lineAt nextAt
     method-steps n =
-        fewer (omega (arith, few .generics, few .parameters))
+        fewer (omega (arith, few .generics))
         (after (told (shown-name (k .name)) method-name (q "method=")) (goes (shown-name (k .name)) method-name _ _)
         (after (ap (answerLine (q "mflags=")) method-flags) refl
         (then (items (λ n. valueLine (q "mgeneric=") (textOf n)) (cursor MethodGeneric c m) (k .generics) generic-step
         (single (untold generic-past (q "mgeneric=")) (leaves generic-past _ _)))
-        (after (told (shown-text (k .returns)) return-type (q "returns=")) refl
-        (items parameterLines (cursor ParamType c m) (k .parameters) parameter-steps
-        (single (untold type-past (q "ptype=")) (leaves type-past _ _ ∙ ap (λ (x : ℕ). cursor AtMethod c x 0) n)))))))
+        (signature-steps n (isOver (methodWork v c m)) refl))))
 
 -- A class's lines.
 module _ (v : View) (c : ℕ) (k : Class) (is : theClass v c ≡ value k) where
@@ -238,28 +296,41 @@ module _ (v : View) (c : ℕ) (k : Class) (is : theClass v c ≡ value k) where
         single (told (shown-name n) (class-generic i e) (q "generic="))
         (goes (shown-name n) (class-generic i e) _ _ ∙ ap (cursor Generic c 0) (next-few (k .generics) i (few .generics) e))
 
-    base-step : (i : ℕ) (t : Text) → getElem? (k .bases) i ≡ some t
-        → Within v 1 (cursor Base c 0 i) (valueLine (q "base=") (some t)) (cursor Base c 0 (suc i))
-    unfolding lineAt nextAt
-    base-step i t e =
-        single (told (shown-text (some t)) (base-at i e) (q "base="))
-        (goes (shown-text (some t)) (base-at i e) _ _ ∙ ap (cursor Base c 0) (next-few (k .bases) i (few .bases) e))
+    module _ (within : isOver (baseWork v c) ≡ false) where
+      base-step : (i : ℕ) (t : Text) → getElem? (k .bases) i ≡ some t
+          → Within v 1 (cursor Base c 0 i) (valueLine (q "base=") (some t)) (cursor Base c 0 (suc i))
+      unfolding lineAt nextAt
+      base-step i t e =
+          let name = listed-within (BaseName c i) v within ∙ base-at i e in
+          single (told (shown-text (some t)) name (q "base="))
+          (goes (shown-text (some t)) name _ _ ∙ ap (cursor Base c 0) (next-few (k .bases) i (few .bases) e))
+
+    base-steps : (over : Bool) → isOver (baseWork v c) ≡ over
+        → Within v (most + 1) (cursor Base c 0 0) (baseLines over (k .bases)) (cursor AtMethod c 0 0)
+    unfolding baseLines lineAt nextAt
+    base-steps true over =
+        let spent = listed-beyond (BaseName c 0) v over in
+        fewer (omega arith) (single (marked spent (q "base=")) (ends spent _ _))
+    base-steps false within =
+        let past = listed-within (BaseName c (length (k .bases))) v within ∙ base-past in
+        fewer (omega (arith, few .bases))
+        (items (λ b. valueLine (q "base=") (some b)) (cursor Base c 0) (k .bases) (base-step within)
+        (single (untold past (q "base=")) (leaves past _ _)))
 
     method-turn : (m : ℕ) (x : Method) → getElem? (k .methods) m ≡ some x
-        → Within v methodSteps (cursor AtMethod c m 0) (methodLines x) (cursor AtMethod c (suc m) 0)
+        → Within v methodSteps (cursor AtMethod c m 0) (methodLines v c m x) (cursor AtMethod c (suc m) 0)
     method-turn m x e = method-steps v c m x (method-at m e) (few .each m x e) (next-few (k .methods) m (few .methods) e)
 
-    class-steps : nextNumber c ≡ suc c → Within v classSteps (cursor AtClass c 0 0) (classLines k) (cursor AtClass (suc c) 0 0)
+    class-steps : nextNumber c ≡ suc c → Within v classSteps (cursor AtClass c 0 0) (classLines v c k) (cursor AtClass (suc c) 0 0)
     unfolding classLines lineAt nextAt
     class-steps n =
-        fewer (omega (arith, few .generics, few .bases, few .methods))
+        fewer (omega (arith, few .generics, few .methods))
         (after (told (shown-name (k .name)) class-name (q "class=")) (goes (shown-name (k .name)) class-name _ _)
         (after (ap (answerLine (q "flags=")) class-flags) refl
         (then (items (λ n. valueLine (q "generic=") (textOf n)) (cursor Generic c 0) (k .generics) class-generic-step
         (single (untold class-generic-past (q "generic=")) (leaves class-generic-past _ _)))
-        (then (items (λ b. valueLine (q "base=") (some b)) (cursor Base c 0) (k .bases) base-step
-        (single (untold base-past (q "base=")) (leaves base-past _ _)))
-        (items methodLines (λ (m : ℕ). cursor AtMethod c m 0) (k .methods) method-turn
+        (then (base-steps (isOver (baseWork v c)) refl)
+        (numbered (methodLines v c) (λ (m : ℕ). cursor AtMethod c m 0) (k .methods) method-turn
         (single (untold method-past (q "method=")) (leaves method-past _ _ ∙ ap (λ (x : ℕ). cursor AtClass x 0 0) n)))))))
 
 -- The whole listing, by what opening the streams found.
@@ -277,19 +348,19 @@ module _ (v : View) (few : FewIn v) where
     class-count = rw ready
 
     class-turn : (c : ℕ) (k : Class) → getElem? (classRecord v) c ≡ some k
-        → Within v classSteps (cursor AtClass c 0 0) (classLines k) (cursor AtClass (suc c) 0 0)
+        → Within v classSteps (cursor AtClass c 0 0) (classLines v c k) (cursor AtClass (suc c) 0 0)
     class-turn c k e = class-steps v c k (class-at c e) (few .each c k e) (next-few (classRecord v) c (few .classes) e)
 
-    record-steps : (stop : ℕ) → walkAnswer v .stop ≡ value stop → Within v listingSteps first (recordLines stop (classRecord v)) done
+    record-steps : (stop : ℕ) → walkAnswer v .stop ≡ value stop → Within v listingSteps first (recordLines v stop (classRecord v)) done
     unfolding recordLines lineAt nextAt
     record-steps stop e =
         fewer (omega (arith, few .classes))
         (after (ap stopLine e) (ap afterStop e)
         (after (ap (answerLine (q "classes=")) class-count) refl
-        (items classLines (λ (c : ℕ). cursor AtClass c 0 0) (classRecord v) class-turn
+        (numbered (classLines v) (λ (c : ℕ). cursor AtClass c 0 0) (classRecord v) class-turn
         (single (untold class-past (q "class=")) (leaves class-past _ _)))))
 
-    listing-found : (stop : ℕ) → walkAnswer v .stop ≡ value stop → listing v ≡ recordLines stop (classRecord v)
+    listing-found : (stop : ℕ) → walkAnswer v .stop ≡ value stop → listing v ≡ recordLines v stop (classRecord v)
     unfolding listing
     listing-found stop e = rw (e, ready)
 

@@ -14,15 +14,18 @@ use Rattle.steps.specs.declared.Steps.{Steps}
 use Rattle.steps.specs.declared.Steps.the-variants.{Left}
 
 module _ (v : View) (c m : ℕ) where
+  pub method-counts : {i : ℕ} {k : Method} → theMethod v c m ≡ value k → i ≡ leftAfter v c + m → countOf (methodWork v c m) ≡ methodSteps v i
+  unfolding methodWork
+  method-counts is at =
+      ap (λ a. countOf (a ⟫ (λ _. value (methodSteps v (leftAfter v c + m))))) is ∙ sym (ap (methodSteps v) at)
+
+  pub no-method-counts : theMethod v c m ≡ refusedBy NoSuchRow → countOf (methodWork v c m) ≡ 0
+  unfolding methodWork
+  no-method-counts is = ap (λ a. countOf (a ⟫ (λ _. value (methodSteps v (leftAfter v c + m))))) is
+
   pub method-takes : {i : ℕ} {k : Method} → theMethod v c m ≡ value k → i ≡ leftAfter v c + m → {steps : ℕ} {r : Steps}
       → Takes (methodSteps v i) steps r → Takes (countOf (methodWork v c m)) steps r
-  unfolding methodWork
-  method-takes is at {steps} {r} takes =
-      let work = ap (λ a. countOf (a ⟫ (λ _. value (methodSteps v (leftAfter v c + m))))) is in
-      subst (λ (n : ℕ). Takes n steps r) (ap (methodSteps v) at ∙ sym work) takes
+  method-takes is at {steps} {r} takes = subst (λ (n : ℕ). Takes n steps r) (sym (method-counts is at)) takes
 
   pub no-method-takes : theMethod v c m ≡ refusedBy NoSuchRow → (steps : ℕ) → Takes (countOf (methodWork v c m)) steps (Left steps)
-  unfolding methodWork
-  no-method-takes is steps =
-      let work : countOf (methodWork v c m) ≡ 0 = ap (λ a. countOf (a ⟫ (λ _. value (methodSteps v (leftAfter v c + m))))) is in
-      left {rest = steps} (omega (arith, work))
+  no-method-takes is steps = left {rest = steps} (omega (arith, no-method-counts is))

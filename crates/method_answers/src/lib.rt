@@ -11,6 +11,7 @@ use places::MethodRow;
 use rows::columns;
 use steps::Steps;
 ghost use mathlib.Core.Path.{_≡_};
+ghost use mathlib.Core.Bool.{true};
 ghost use mathlib.Core.List.{List};
 ghost use Prim.Native.Nat.{ℕ, _<_, _≤_};
 ghost use lib.ListN.{length};
@@ -305,5 +306,24 @@ pub fn pass_readings_of(
             method_signatures::pass_readings(tables, strings, blob, layout, taker, i, steps)
         }
         MethodRow::NoRow => Steps::Left(steps),
+    }
+}
+
+// Whether so many steps surely suffice for all readings of a method's signature.
+pub fn surely_fits_of(
+    tables: &[u8],
+    blob: &[u8],
+    layout: &[u32],
+    row: MethodRow,
+    steps: u64,
+) -> bool
+    requires { ⌜ Laid (now tables) (now layout) ⌝ }
+    ensures { λ r. let v = viewIn (now (tables .entry)) (now (layout .entry)) in
+        let b = now (blob .entry) in
+        ⌜ ((strings : List ℕ) (c m : ℕ) → MethodRowIs (v strings b) c m row → r ≡ true → countOf (methodWork (v strings b) c m) ≤ steps) ⌝ }
+{
+    match row_inside(layout, row) {
+        MethodRow::Row(i) => method_signatures::surely_fits(tables, blob, layout, i, steps),
+        MethodRow::NoRow => true,
     }
 }

@@ -19,7 +19,8 @@ pub fn method_count(
     ensures { λ r. ⌜ Numbered (methodCount (view options (now (tables .entry)) (now (strings .entry)) (now (blob .entry))) (class .0)) r ⌝ }
 {
     let count = NumberQuestion::MethodCount(class);
-    asks::ask_number(tables, strings, blob, options, count)
+    let asked = asks::ask_number(tables, strings, blob, options, 0, count);
+    asked.reply
 }
 
 // The flags of method m of a class (II.23.1.10).
@@ -35,7 +36,8 @@ pub fn method_flags(
         ⌜ Numbered (methodFlags v (class .0) m) r ⌝ }
 {
     let flags = NumberQuestion::MethodFlags(class, m);
-    asks::ask_number(tables, strings, blob, options, flags)
+    let asked = asks::ask_number(tables, strings, blob, options, 0, flags);
+    asked.reply
 }
 
 // The name of method m of a class.
@@ -52,5 +54,6 @@ pub fn method_name(
         ⌜ Named (methodName v (class .0) m) (now (buf .entry)) r (now (buf .exit)) ⌝ }
 {
     let name = NameQuestion::MethodName(class, m);
-    asks::ask_name(tables, strings, blob, options, name, buf)
+    let asked = asks::ask_name(tables, strings, blob, options, 0, name, buf);
+    asked.reply
 }

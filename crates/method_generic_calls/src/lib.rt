@@ -21,7 +21,8 @@ pub fn method_generic_count(
         ⌜ Numbered (methodGenericCount v (class .0) m) r ⌝ }
 {
     let count = NumberQuestion::MethodGenericCount(class, m);
-    asks::ask_number(tables, strings, blob, options, count)
+    let asked = asks::ask_number(tables, strings, blob, options, 0, count);
+    asked.reply
 }
 
 // The name of generic parameter g of method m of a class.
@@ -39,5 +40,6 @@ pub fn method_generic_name(
         ⌜ Named (methodGenericName v (class .0) m g) (now (buf .entry)) r (now (buf .exit)) ⌝ }
 {
     let name = NameQuestion::MethodGenericName(class, m, g);
-    asks::ask_name(tables, strings, blob, options, name, buf)
+    let asked = asks::ask_name(tables, strings, blob, options, 0, name, buf);
+    asked.reply
 }

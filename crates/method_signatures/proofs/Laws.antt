@@ -221,6 +221,15 @@ not-read true b c others = refl
 not-read false true c others = refl
 not-read false false c others = refl
 
+-- A class that reads a method has a first one, and its methods end behind it.
+reads-some : (m col end : ℕ) → reads m col end ≡ true → (0 < col) × (m < end)
+unfolding reads
+reads-some m zero end e = absurd (subst T (sym e ∙ ap (λ z. cond z false (leb (0 - 1) m && ltb m end)) (eq-eqb 0 0 refl)) tt)
+reads-some m (suc k) end e =
+    let some : eqb (suc k) 0 ≡ false = ne-eqb (suc k) 0 (λ z. absurd (omega (arith, z))) in
+    let both : _≡_ {A = Bool} (leb (suc k - 1) m && ltb m end) true = sym (ap (λ z. cond z false (leb (suc k - 1) m && ltb m end)) some) ∙ e in
+    (omega arith, ltb→lt m end (and-right (leb (suc k - 1) m) (ltb m end) (subst T (sym both) tt)))
+
 module _ (v : View) (m : ℕ) where
   -- The classes from i on: which read the method, and where the methods end of the class before them.
   abbrev later : ℕ → List ℕ
@@ -247,6 +256,13 @@ module _ (v : View) (m : ℕ) where
     later-step : later i ≡ cond (reads m col (ending (i + 1))) (i ∷ later (i + 1)) (later (i + 1))
     unfolding readersFrom readersAmong ending tabulate
     later-step = rw (one-more, read)
+
+    -- By whether the class reads the method.
+    unread : reads m col (ending (i + 1)) ≡ false → later i ≡ later (i + 1)
+    unread f = later-step ∙ rw f
+
+    read-here : reads m col (ending (i + 1)) ≡ true → later i ≡ i ∷ later (i + 1)
+    read-here f = later-step ∙ rw f
 
     -- A class whose methods end at or below m does not read it.
     passed-over : ending (i + 1) ≤ m → later i ≡ later (i + 1)
@@ -375,6 +391,35 @@ module _ {t l : List ℕ} (laid : Laid t l) (strings heap : List ℕ) where
 
     pub past-none : (c : ℕ) → PastMethod (viewIn t l strings heap) m c → readersFrom (viewIn t l strings heap) m c ≡ []
     past-none c = past-all _ c refl
+
+    -- So at most one class reads the method: n classes follow.
+    abbrev seen : View
+    seen = viewIn t l strings heap
+
+    abbrev begins : ℕ → ℕ
+    begins c = numberIn seen methodList (classRow seen c)
+
+    few-step : (c : ℕ) (inside : c < classes seen) → length (readersFrom seen m (c + 1)) ≤ 1 → (b : Bool)
+        → reads m (begins c) (ending seen m (c + 1)) ≡ b → length (readersFrom seen m c) ≤ 1
+    few-step c inside few false f = omega (arith, few, ap length (unread seen m c inside refl f))
+    few-step c inside few true f =
+        let here = list-at laid strings heap c inside in
+        let is = reads-some m (begins c) (ending seen m (c + 1)) f in
+        let all = classes-are laid strings heap columns.methodList (omega arith) refl in
+        let next : PastMethod seen m (c + 1) =
+        λ h.
+        let begun = list-at laid strings heap (c + 1) h in
+        let risen = up (c + 1) (omega arith) in
+        let ends = ending-met seen m (c + 1) h refl (λ z. omega (arith, is .0, here, begun, risen)) in
+        omega (arith, is .1, ends) in
+        omega (arith, ap length (read-here seen m c inside refl f ∙ ap (λ (k : List ℕ). c ∷ k) (past-none (c + 1) next)))
+
+    few-from : (n c : ℕ) → n ≡ classes seen - c → length (readersFrom seen m c) ≤ 1
+    few-from zero c e = omega (arith, ap length (later-last seen m c (omega arith)))
+    few-from (suc n) c e = few-step c (omega arith) (few-from n (c + 1) (omega arith)) _ refl
+
+    pub few-readers : length (readersFrom seen m 0) ≤ 1
+    few-readers = few-from _ 0 refl
 
   -- What the scan from a class on answers.
   module _ (m from : ℕ) (class : ClassNumber) (first row : ℕ)

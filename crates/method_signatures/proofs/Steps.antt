@@ -1,7 +1,8 @@
 -- What the readings of a method's signature take of the steps, reader by reader. Assumes nothing.
 use mathlib.Core.Path.{_≡_, sym, ap, subst}
 use mathlib.Core.List.{List, [], _∷_, map}
-use Prim.Native.Nat.{ℕ, _+_, _*_, _<_}
+use Prim.Native.Nat.{ℕ, _+_, _*_, _≤_, _<_}
+use lib.ListN.{length}
 use native.Mathlib.Omega.{arith}
 use Rattle.numbers.specs.Reading.{Res}
 use Rattle.numbers.specs.Parts.{part}
@@ -14,18 +15,18 @@ use Rattle.record.specs.View.{View}
 use Rattle.record.specs.Names.{env, classGenerics, methodGenerics}
 use Rattle.record.specs.Methods.{Signature, signature, reading, readSteps, readersFrom, methodSteps}
 use Rattle.rows.specs.Columns as columns
-use Rattle.rows.specs.Layout.{Laid, rowsAt, cell, viewIn}
+use Rattle.rows.specs.Layout.{Laid, Ascends, rowsAt, cell, viewIn}
 use Rattle.sig_leaves.specs.declared.Owner.the-variants.{Of}
 use Rattle.signatures.specs.Environment.{envIn}
 use Rattle.steps.specs.Counting.{Takes, left, spent}
 use Rattle.steps.specs.declared.Steps.{Steps}
 use Rattle.steps.specs.declared.Steps.the-variants.{Left, Spent}
 use Rattle.steps.proofs.Laws.{takes-left, takes-spent}
-use Rattle.passing.specs.Passing.{Passes, leftOf}
+use Rattle.passing.specs.Passing.{Passes, leftOf, Suffices}
 use Rattle.passing.specs.declared.Passed.{Passed}
 use Rattle.passing.proofs.Laws.{passes-takes}
 use Rattle.method_signatures.specs.Signatures.{ReadFrom}
-use Rattle.method_signatures.proofs.Laws.{unread-blob, read-part}
+use Rattle.method_signatures.proofs.Laws.{unread-blob, read-part, few-readers}
 
 -- ---- A class's reading
 
@@ -80,3 +81,28 @@ module _ (v : View) (m steps : ℕ) where
 
     pub pay-spent : r ≡ Spent → Takes (methodSteps v m) steps Spent
     pay-spent e = spent (omega (arith, pays .paid, one-more, takes-spent takes e))
+
+-- ---- Where at most one class reads it
+
+at-most : (f : ℕ → ℕ) (l : List ℕ) (n : ℕ) → length l ≤ 1 → ((c : ℕ) → f c ≤ n) → total (map f l) ≤ n
+at-most f [] n h each = omega arith
+at-most f (c ∷ []) n h each = omega (arith, each c)
+at-most f (c ∷ d ∷ l) n h each = absurd (omega arith)
+
+module _ {t l : List ℕ} (laid : Laid t l) (strings heap : List ℕ) (m : ℕ) (h : m < rowsAt l columns.methodSignature)
+    (up : Ascends (cell t l columns.methodList) (rowsAt l columns.methodList)) (steps : ℕ)
+    {p : Part} {i : ℕ} (told : i ≡ cell t l columns.methodSignature m) (looked : p ≡ blobAt heap i) where
+  by-one : ((c : ℕ) → readSteps (viewIn t l strings heap) m c ≤ steps) → methodSteps (viewIn t l strings heap) m ≤ steps
+  unfolding methodSteps
+  by-one each = at-most (readSteps (viewIn t l strings heap) m) (readersFrom (viewIn t l strings heap) m 0) steps (few-readers laid strings heap up m) each
+
+  pub blobless-fits : {why : Reason} → p ≡ Absent why → methodSteps (viewIn t l strings heap) m ≤ steps
+  blobless-fits e = by-one (λ c. omega (arith, steps-of (viewIn t l strings heap) m c (unread-blob laid strings heap m c h told looked e)))
+
+  pub surely-fits : {start len : ℕ} → p ≡ Found start len → {sig : List ℕ} → sig ≡ part heap start len → Suffices sig steps
+      → methodSteps (viewIn t l strings heap) m ≤ steps
+  surely-fits {start} {len} e is suffices =
+      let whole = subst (λ (s : List ℕ). Suffices s steps) is suffices in
+      let v = viewIn t l strings heap in
+      by-one (λ c.
+      omega (arith, steps-of v m c (read-part laid strings heap m c h told looked e), whole .method (env v (classGenerics v c) (methodGenerics v m))))

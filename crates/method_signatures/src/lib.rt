@@ -15,10 +15,10 @@ use sig_leaves::LEVELS;
 use sig_leaves::Owner;
 use steps::Steps;
 ghost use mathlib.Core.Path.{_≡_};
-ghost use mathlib.Core.Bool.{_&&_};
+ghost use mathlib.Core.Bool.{true, _&&_};
 ghost use mathlib.Core.List.{List};
 ghost use mathlib.Core.Option.{none};
-ghost use Prim.Native.Nat.{ℕ, _+_, _<_};
+ghost use Prim.Native.Nat.{ℕ, _+_, _<_, _≤_};
 ghost use lib.Dec.{leb, ltb};
 ghost use lib.ListN.{length};
 ghost use Rattle.buffers.specs.Writes.{Said, placeSays};
@@ -739,4 +739,26 @@ pub fn pass_readings(
         }
     }
     Steps::Left(have)
+}
+
+// Whether so many steps surely suffice for all readings of method m, as far as the bytes of its signature show it; where MethodList is not
+// known to ascend, several classes may read it.
+pub fn surely_fits(tables: &[u8], blob: &[u8], layout: &[u32], m: usize, steps: u64) -> bool
+    requires { ⌜ Laid (now tables) (now layout) ⌝ }
+    requires { ⌜ m < rowsAt (now layout) columns.methodSignature ⌝ }
+    ensures { λ r.
+        ⌜ ((strings : List ℕ) → r ≡ true → methodSteps
+        (viewIn (now (tables .entry)) (now (layout .entry)) strings (now (blob .entry))) m ≤ steps) ⌝ }
+{
+    if !rows::is_marked(layout, columns::METHOD_LIST) {
+        return false;
+    }
+    let index = rows::read_column(tables, layout, columns::METHOD_SIGNATURE, m);
+    match heaps::get_blob(blob, index as usize) {
+        Part::Found { start, len } => {
+            let sig = numbers::cut(blob, start, len);
+            passing::surely_suffices(sig, steps)
+        }
+        Part::Absent(_) => true,
+    }
 }

@@ -1,5 +1,5 @@
--- The two ways of every call: a stream that is refused answers with its refusal, and one that is opened with what its layout says. Every
--- public call cites these. Assumes nothing.
+-- The two ways of every call: a stream that is refused answers with its refusal and leaves the allowance, and one that is opened answers
+-- with what its layout says. Every public call cites these. Assumes nothing.
 use mathlib.Core.Path.{_≡_, sym, ap, subst, _∙_}
 use mathlib.Core.List.{List}
 use Prim.Native.Nat.{ℕ}
@@ -11,8 +11,9 @@ use Rattle.header.specs.declared.Options.{Options}
 use Rattle.header.specs.declared.Opened.{Opened}
 use Rattle.header.specs.declared.Opened.the-variants.{Refused, Ready}
 use Rattle.record.specs.View.{View, view, viewOf}
-use Rattle.record.specs.Answers.{NumberCall, numberAnswer, NameCall, nameAnswer, Numbered}
-use Rattle.record.proofs.Laws.{opening-first}
+use Rattle.record.specs.Answers.{NumberCall, NameCall}
+use Rattle.record.specs.Allowance.{Charged, numberCharged, nameCharged, NumberedCharged, NamedCharged}
+use Rattle.record.proofs.Allowance.{number-unopened, name-unopened}
 use Rattle.rows.specs.Layout.{viewIn}
 use Rattle.opening.specs.Opening.{OpenedAs}
 use Rattle.opening.proofs.Laws.{opened-view}
@@ -22,17 +23,26 @@ module _ (strings blob : List ℕ) {o : Options} {t : List ℕ} {a : Opened} {l 
   v = view o t strings blob
 
   module _ {why : Refusal} (e : a ≡ Refused why) where
-    pub number-refused : (call : NumberCall) → Numbered (numberAnswer call v) (No why)
+    pub number-refused : (call : NumberCall) (allowance : ℕ) → NumberedCharged (numberCharged call v allowance) (No why) allowance
     unfolding viewOf
-    number-refused call = sym (opening-first v why (sym (c .answer) ∙ e) .0 call)
+    number-refused call allowance =
+        let same = sym (number-unopened v (sym (c .answer) ∙ e) call allowance) in
+        record { says = ap (λ x. x .answer) same; leaves = ap (λ x. x .left) same }
 
-    pub name-refused : (call : NameCall) {b b′ : List ℕ} {r : Reply} → Named (refusedBy why) b r b′ → Named (nameAnswer call v) b r b′
+    pub name-refused : (call : NameCall) (allowance : ℕ) {b b′ : List ℕ} {r : Reply} → Named (refusedBy why) b r b′
+        → NamedCharged (nameCharged call v allowance) b r b′ allowance
     unfolding viewOf
-    name-refused call n = rw (opening-first v why (sym (c .answer) ∙ e) .1 call) n
+    name-refused call allowance {b} {b′} {r} n =
+        let same = sym (name-unopened v (sym (c .answer) ∙ e) call allowance) in
+        record { named = subst (λ x. Named (x .answer) b r b′) same n; leaves = ap (λ x. x .left) same }
 
   module _ (e : a ≡ Ready) where
-    pub number-ready : (call : NumberCall) (r : Reply) → Numbered (numberAnswer call (viewIn t l strings blob)) r → Numbered (numberAnswer call v) r
-    number-ready call r n = n ∙ ap (numberAnswer call) (opened-view c e strings blob)
+    pub number-ready : (call : NumberCall) (allowance : ℕ) {r : Reply} {left : ℕ}
+        → NumberedCharged (numberCharged call (viewIn t l strings blob) allowance) r left → NumberedCharged (numberCharged call v allowance) r left
+    number-ready call allowance {r} {left} n =
+        subst (λ w. NumberedCharged (numberCharged call w allowance) r left) (opened-view c e strings blob) n
 
-    pub name-ready : (call : NameCall) {b b′ : List ℕ} {r : Reply} → Named (nameAnswer call (viewIn t l strings blob)) b r b′ → Named (nameAnswer call v) b r b′
-    name-ready call {b} {b′} {r} n = subst (λ w. Named (nameAnswer call w) b r b′) (opened-view c e strings blob) n
+    pub name-ready : (call : NameCall) (allowance : ℕ) {b b′ : List ℕ} {r : Reply} {left : ℕ}
+        → NamedCharged (nameCharged call (viewIn t l strings blob) allowance) b r b′ left → NamedCharged (nameCharged call v allowance) b r b′ left
+    name-ready call allowance {b} {b′} {r} {left} n =
+        subst (λ w. NamedCharged (nameCharged call w allowance) b r b′ left) (opened-view c e strings blob) n

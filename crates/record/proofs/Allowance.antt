@@ -2,6 +2,7 @@
 -- nothing.
 use mathlib.Core.Path.{_≡_, refl, sym, ap, subst, _∙_}
 use mathlib.Core.Bool.{Bool, true, false, cond}
+use mathlib.Core.List.{List}
 use Prim.Native.Nat.{ℕ, _+_, _-_, _≤_, _<_}
 use native.Mathlib.Omega.{arith}
 use borrow.Author.Tests.{lt-ltb, le-ltb}
@@ -9,15 +10,20 @@ use lib.Dec.{leb}
 use lib.ListN.{length}
 use Rattle.numbers.proofs.Pick.{by-lt}
 use Rattle.buffers.specs.Texts.{Text}
-use Rattle.buffers.specs.Replies.{Refused, Answer, refused, refusedBy, value, nameOr5, nameReply}
+use Rattle.buffers.specs.Replies.{Refused, Answer, refused, refusedBy, value, nameOr5, nameReply, Named}
+use Rattle.buffers.specs.declared.Refusal.{Refusal}
 use Rattle.buffers.specs.declared.Refusal.the-variants.{BufferTooSmall, TooManySteps}
+use Rattle.buffers.specs.declared.Reply.{Reply}
+use Rattle.header.specs.declared.Opened.the-variants as opened
 use Rattle.record.specs.View.{View}
 use Rattle.record.specs.Names.{baseSteps}
 use Rattle.record.specs.Methods.{leftAfter, methodSteps}
-use Rattle.record.specs.Answers.{_⟫_, item, theClass, theMethod, baseCount, parameterCount, baseName, returnType, parameterType, parameterName}
+use Rattle.record.specs.Answers.{_⟫_, item, theClass, theMethod, Numbered, baseCount, parameterCount, baseName, returnType, parameterType, parameterName}
 use Rattle.record.specs.Answers.{NumberCall, ClassCount, ClassFlags, GenericCount, BaseCount, MethodCount, MethodFlags, MethodGenericCount, ParameterCount, numberAnswer}
 use Rattle.record.specs.Answers.{NameCall, ClassName, GenericName, BaseName, MethodName, MethodGenericName, ReturnType, ParameterType, ParameterName, nameAnswer}
 use Rattle.record.specs.Allowance.{baseWork, methodWork, numberWork, nameWork, countOf, isPaid, cost, charge, Exactly, SpentExactly, RaisingKeeps}
+use Rattle.record.specs.Allowance.{Charged, numberCharged, nameCharged, NumberedCharged, NamedCharged}
+use Rattle.record.proofs.Laws.{opening-first}
 
 cost-least : {A : Type 0} (steps : ℕ) (a : Answer A) → cost steps a ≤ steps
 unfolding cost
@@ -46,6 +52,62 @@ module _ {A : Type 0} (allowance : ℕ) (work : Answer ℕ) (a : Answer A) where
   pub charge-fits : countOf work ≤ allowance → charge allowance work a ≡ record { answer = a; left = allowance - cost (countOf work) a }
   unfolding charge
   charge-fits h = rw (le-ltb allowance (countOf work) h)
+
+  -- Where nothing is counted the answer is the one that there is without an allowance, and all of it is left.
+  pub charge-free : countOf work ≡ 0 → charge allowance work a ≡ record { answer = a; left = allowance }
+  charge-free e =
+      let all : allowance - cost (countOf work) a ≡ allowance = omega (arith, cost-least (countOf work) a, e) in
+      charge-fits (omega (arith, e)) ∙ ap (λ n. record { answer = a; left = n }) all
+
+-- What a call that counts nothing promises, is its answer.
+pub numbered-free : {a : Answer ℕ} (allowance : ℕ) (work : Answer ℕ) (r : Reply) {left : ℕ} → countOf work ≡ 0
+    → NumberedCharged (charge allowance work a) r left → Numbered a r
+numbered-free {a} allowance work r e n = n .says ∙ ap (λ c. c .answer) (charge-free allowance work a e)
+
+pub named-free : {a : Answer Text} (allowance : ℕ) (work : Answer ℕ) {before after : List ℕ} {r : Reply} {left : ℕ} → countOf work ≡ 0
+    → NamedCharged (charge allowance work a) before r after left → Named a before r after
+named-free {a} allowance work {before} {after} {r} e n =
+    subst (λ c. Named (c .answer) before r after) (charge-free allowance work a e) (n .named)
+
+-- A stream that is refused: every call is refused so, and the whole allowance is left.
+module _ (v : View) {why : Refusal} (e : v .header .answer ≡ opened.Refused why) where
+  free-bases : (c : ℕ) → countOf (baseWork v c) ≡ 0
+  unfolding baseWork
+  free-bases c = rw e refl
+
+  free-method : (c m : ℕ) → countOf (methodWork v c m) ≡ 0
+  unfolding methodWork
+  free-method c m = rw e refl
+
+  free-number : (call : NumberCall) → countOf (numberWork call v) ≡ 0
+  free-number ClassCount = refl
+  free-number (ClassFlags c) = refl
+  free-number (GenericCount c) = refl
+  free-number (BaseCount c) = free-bases c
+  free-number (MethodCount c) = refl
+  free-number (MethodFlags c m) = refl
+  free-number (MethodGenericCount c m) = refl
+  free-number (ParameterCount c m) = free-method c m
+
+  free-name : (call : NameCall) → countOf (nameWork call v) ≡ 0
+  free-name (ClassName c) = refl
+  free-name (GenericName c g) = refl
+  free-name (BaseName c b) = free-bases c
+  free-name (MethodName c m) = refl
+  free-name (MethodGenericName c m g) = refl
+  free-name (ReturnType c m) = free-method c m
+  free-name (ParameterType c m p) = free-method c m
+  free-name (ParameterName c m p) = free-method c m
+
+  pub number-unopened : (call : NumberCall) (allowance : ℕ) → numberCharged call v allowance ≡ record { answer = refusedBy why; left = allowance }
+  number-unopened call allowance =
+      charge-free allowance (numberWork call v) (numberAnswer call v) (free-number call)
+      ∙ ap (λ a. record { answer = a; left = allowance }) (opening-first v why e .0 call)
+
+  pub name-unopened : (call : NameCall) (allowance : ℕ) → nameCharged call v allowance ≡ record { answer = refusedBy why; left = allowance }
+  name-unopened call allowance =
+      charge-free allowance (nameWork call v) (nameAnswer call v) (free-name call)
+      ∙ ap (λ a. record { answer = a; left = allowance }) (opening-first v why e .1 call)
 
 -- A refusal that stands before what is counted is the call's.
 abbrev again : {A B : Type 0} → Refused → Answer A → Answer B

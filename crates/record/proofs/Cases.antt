@@ -15,11 +15,11 @@ use Rattle.record.specs.Columns.{column}
 use Rattle.record.specs.Namespaces.{cut, fullName, nameOf, ownNamespace}
 use Rattle.record.specs.View.{otherRow, viewOf}
 use Rattle.record.specs.Types.{look, names, simple, typeFullName, counted, methodStart, arguments, shown, parameters, around, classType, generic, shape, array, instance, fnPtr, modified, form, within, type}
-use Rattle.record.specs.Names.{classes, classFullName, classNamed, refFullName, specBlob, typeIn, typeNameIn, baseIndices, baseTypes}
-use Rattle.record.specs.Methods.{takes, leftOver, leftAfter, tries, signature, signatureBlob, reading, readBy, endBefore, reads, readersAmong, readersFrom, signatureOf, parameterName}
+use Rattle.record.specs.Names.{classes, classFullName, classNamed, refFullName, specBlob, typeIn, typeNameIn, typeStepsIn, baseIndices, baseTypes, baseSteps}
+use Rattle.record.specs.Methods.{takes, leftOver, leftAfter, tries, signature, signatureBlob, reading, readBy, readSteps, endBefore, reads, readersAmong, readersFrom, signatureOf, methodSteps, parameterName}
 use Rattle.record.specs.Record.{method, class, classRecord}
 use Rattle.buffers.specs.Replies.{nameReply, nameBuffer}
-use Rattle.record.specs.Cases.{sameℤ, is, sameAnswer, nowhere, unsigned, signed, rendered, all, cases, TwelveCases, moreCases, MoreCases, Limits, Buffers, wholeTables, wholeStrings, WholeCase, threeTables, threeStrings, threeBlob, ThreeClasses, richTables, richStrings, richBlob, RichCase, cutStrings, cutTypes, interfacesEnding, CutTables, nesting, nestingStrings, NestedNames}
+use Rattle.record.specs.Cases.{sameℤ, is, sameAnswer, nowhere, unsigned, signed, rendered, all, cases, TwelveCases, moreCases, MoreCases, Limits, Buffers, wholeTables, wholeStrings, WholeCase, threeTables, threeStrings, threeBlob, ThreeClasses, richTables, richStrings, richBlob, RichCase, cutStrings, cutTypes, interfacesEnding, CutTables, nesting, nestingStrings, NestedNames, unnamedBase, unnamedBlob, StepCases}
 
 pub twelve : TwelveCases
 unfolding cases all rendered signed unsigned nowhere is sameℤ sameAnswer same packed bits7 bits14 bits29 uint unrotated sint times sep digits decimal signedText dim dims look names simple typeFullName counted methodStart arguments shown parameters around classType generic shape array instance fnPtr modified form within type
@@ -56,3 +56,7 @@ cut-tables = record { types = refl; entire = refl; cut = refl }
 pub nested-names : NestedNames
 unfolding nesting nestingStrings leAt bitAt onesBelow rowCount overLimit opened tables reaches indexSizes indexSize heapSize hasCustomAttribute sumOf rowSize startOf isTable passes stopFrom stopKind wholeRows ifReached walked tabulate before stringAt bytesAt blobAt name string blob column walkBy extentBy onlyEntire keptBy cut fullName nameOf ownNamespace otherRow viewOf classes classFullName classNamed refFullName specBlob typeIn typeNameIn baseIndices baseTypes takes leftOver leftAfter tries signature signatureBlob reading readBy endBefore reads readersAmong readersFrom signatureOf parameterName method class classRecord packed bits7 bits14 bits29 uint unrotated sint times sep digits decimal signedText dim dims look names simple typeFullName counted methodStart arguments shown parameters around classType generic shape array instance fnPtr modified form within type
 nested-names = record { outward = refl; inward = refl; cycle = refl; self = refl; idle = refl; gone = refl }
+
+pub step-cases : StepCases
+unfolding threeTables threeStrings threeBlob cutStrings unnamedBase unnamedBlob leAt bitAt onesBelow rowCount overLimit opened tables reaches indexSizes indexSize heapSize hasCustomAttribute sumOf rowSize startOf isTable passes stopFrom stopKind wholeRows ifReached walked tabulate before stringAt bytesAt blobAt name string blob column walkBy extentBy onlyEntire keptBy cut fullName nameOf ownNamespace otherRow viewOf classes classFullName classNamed refFullName specBlob typeIn typeNameIn baseIndices baseTypes typeStepsIn baseSteps takes leftOver leftAfter tries signature signatureBlob reading readBy endBefore reads readersAmong readersFrom readSteps methodSteps parameterName method class classRecord packed bits7 bits14 bits29 uint unrotated sint times sep digits decimal signedText dim dims look names simple typeFullName counted methodStart arguments shown parameters around classType generic shape array instance fnPtr modified form within type
+step-cases = record { methods = refl; bases = refl; counted = refl }

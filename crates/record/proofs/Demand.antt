@@ -4,7 +4,8 @@ use Rattle.record.specs.View.{View, view}
 use Rattle.record.specs.Record.{classRecord}
 use Rattle.buffers.specs.Replies.{Named}
 use Rattle.buffers.proofs.Replies.{reply-same, named-same}
-use Rattle.record.specs.Answers.{walkAnswer, numberAnswer, nameAnswer}
+use Rattle.record.specs.Answers.{walkAnswer}
+use Rattle.record.specs.Allowance.{numberCharged, nameCharged}
 use Rattle.record.specs.Demand.{Survives, RearrangementSurvives, SwapShows}
 use Rattle.record.proofs.Rearrangement.{view-same}
 use Rattle.record.proofs.Swap
@@ -15,9 +16,14 @@ survives v w e =
     record {
       record-same = ap classRecord e;
       walk-same = ap walkAnswer e;
-      numbers-same = λ call r r′ x y. reply-same r′ r (y ∙ ap (numberAnswer call) e ∙ sym x);
-      names-same = λ call before before′ after after′ r r′ l x y.
-          named-same l x (subst (λ a. Named a before′ r′ after′) (ap (nameAnswer call) e) y);
+      numbers-same = λ call allowance r r′ left left′ x y. (
+        reply-same r′ r (y .says ∙ ap (λ u. numberCharged call u allowance .answer) e ∙ sym (x .says)),
+        y .leaves ∙ ap (λ u. numberCharged call u allowance .left) e ∙ sym (x .leaves),
+      );
+      names-same = λ call allowance before before′ after after′ r r′ left left′ l x y.
+          let named = subst (λ u. Named (nameCharged call u allowance .answer) before′ r′ after′) e (y .named) in
+          let same = named-same l (x .named) named in
+          (same .0, same .1, y .leaves ∙ ap (λ u. nameCharged call u allowance .left) e ∙ sym (x .leaves));
       all-else-same = λ answer. ap answer e;
     }
 

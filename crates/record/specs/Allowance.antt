@@ -89,6 +89,13 @@ pub record NamedCharged (a : Charged Text) (before : List ℕ) (r : Reply) (afte
   pub named : Named (a .answer) before r after
   pub leaves : left ≡ a .left
 
+-- What a listing allows for each name, and whether a call counts more.
+abbrev pub ceiling : ℕ
+ceiling = 1_000_000
+
+unfoldable pub isOver : Answer ℕ → Bool
+isOver work = ltb ceiling (countOf work)
+
 -- ---- What is claimed (proofs/Allowance.antt)
 
 -- A call that counts so many steps: 11, which leaves nothing, exactly where they exceed the allowance; else the answer that it has without

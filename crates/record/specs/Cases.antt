@@ -12,13 +12,15 @@ use Rattle.buffers.specs.declared.Reason.the-variants.{NullIndex}
 use Rattle.buffers.specs.declared.Refusal.the-variants.{TooManyRows}
 use Rattle.header.specs.declared.Opened.the-variants.{Refused, Ready}
 use Rattle.numbers.specs.Compressed.{uint, sint}
+use Rattle.numbers.specs.Lists.{tabulate}
 use Rattle.buffers.specs.Texts.{Text, q, same}
 use Rattle.heaps.specs.Lookups.{Name, found, missing}
 use Rattle.record.specs.Types.{Env, type}
 use Rattle.tables.specs.Extents.{sizesIn}
 use Rattle.record.specs.View.{View, view}
 use Rattle.header.specs.Stream.{base, opened}
-use Rattle.record.specs.Names.{levels}
+use Rattle.record.specs.Names.{levels, baseTypes, baseSteps}
+use Rattle.record.specs.Methods.{methodSteps}
 use Rattle.record.specs.Record.{Method, classRecord}
 use Rattle.buffers.specs.Replies.{Answer, refused, value, nameOr5, nameReply, nameBuffer}
 use Rattle.record.specs.Answers.{walkAnswer}
@@ -295,3 +297,22 @@ pub record NestedNames : Type 0 where
   -- rows with an index 0 or 1 do nothing; an enclosing class that is not there leaves no namespace
   pub idle : namesOf (nesting 3 1 0 2) ≡ found (q "A") ∷ found (q "B") ∷ found (q "C") ∷ []
   pub gone : namesOf (nesting 3 2 3 9) ≡ found (q "A") ∷ found (q "B") ∷ found (q "C") ∷ []
+
+-- Class A extends TypeSpec row 1, which has no name, and has the interface of TypeSpec row 2, `int`; each has one type byte.
+unfoldable pub unnamedBase : List ℕ
+unnamedBase =
+    0 ∷ 0 ∷ 0 ∷ 0 ∷ 2 ∷ 0 ∷ 0 ∷ 1 ∷ 4 ∷ 2 ∷ 0 ∷ 8 ∷ 0 ∷ 0 ∷ 0 ∷ 0 ∷ 0 ∷ 0 ∷ 0 ∷ 0 ∷ 0 ∷ 0 ∷ 0 ∷ 0 ∷
+    2 ∷ 0 ∷ 0 ∷ 0 ∷ 1 ∷ 0 ∷ 0 ∷ 0 ∷ 2 ∷ 0 ∷ 0 ∷ 0 ∷
+    typeRow 0 ++ 0 ∷ 0 ∷ 0 ∷ 0 ∷ 1 ∷ 0 ∷ 0 ∷ 0 ∷ 6 ∷ 0 ∷ 0 ∷ 0 ∷ 0 ∷ 0 ∷
+    2 ∷ 0 ∷ 10 ∷ 0 ∷
+    1 ∷ 0 ∷ 3 ∷ 0 ∷ []
+
+unfoldable pub unnamedBlob : List ℕ
+unnamedBlob = 0 ∷ 1 ∷ 0x00 ∷ 1 ∷ 0x08 ∷ []
+
+-- What is counted (2026-06): of the three classes' methods, each with one type byte, the second and the third are read twice; of the base
+-- types also the one that has no name.
+pub record StepCases : Type 0 where
+  pub methods : tabulate (methodSteps (view base threeTables threeStrings threeBlob)) 0 5 ≡ 1 ∷ 2 ∷ 2 ∷ 1 ∷ 1 ∷ []
+  pub bases : baseTypes (view base unnamedBase cutStrings unnamedBlob) 0 ≡ q "int" ∷ []
+  pub counted : baseSteps (view base unnamedBase cutStrings unnamedBlob) 0 ≡ 2

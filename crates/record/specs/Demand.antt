@@ -14,21 +14,24 @@ use Rattle.record.specs.View.{View, view, sideRow}
 use Rattle.header.specs.Stream.{opened}
 use Rattle.record.specs.Names.{classIndex}
 use Rattle.record.specs.Record.{class, classRecord}
-use Rattle.buffers.specs.Replies.{Named}
-use Rattle.record.specs.Answers.{walkAnswer, NumberCall, numberAnswer, Numbered, NameCall, nameAnswer}
+use Rattle.record.specs.Answers.{walkAnswer, NumberCall, NameCall}
+use Rattle.record.specs.Allowance.{numberCharged, nameCharged, NumberedCharged, NamedCharged}
 use Rattle.record.specs.Rearrangement.{Rearranged, Swapped}
 
--- Two views give the same class record, the same walk and the same answer to every call, asked alike: with the same arguments and
--- with buffers of equal length, however filled before. A refusal is an answer.
+-- Two views give the same class record, the same walk and the same answer to every call, asked alike: with the same arguments, what the
+-- allowance holds before among them, and with buffers of equal length, however filled before. A refusal is an answer, and what is left of
+-- the allowance is part of one.
 pub record Survives (v w : View) : Type 1 where
   pub record-same : classRecord w ≡ classRecord v
   pub walk-same : walkAnswer w ≡ walkAnswer v
   pub numbers-same :
-      (call : NumberCall) (r r′ : Reply) → Numbered (numberAnswer call v) r → Numbered (numberAnswer call w) r′ → r′ ≡ r
+      (call : NumberCall) (allowance : ℕ) (r r′ : Reply) (left left′ : ℕ)
+      → NumberedCharged (numberCharged call v allowance) r left → NumberedCharged (numberCharged call w allowance) r′ left′
+      → (r′ ≡ r) × (left′ ≡ left)
   pub names-same :
-      (call : NameCall) (before before′ after after′ : List ℕ) (r r′ : Reply) → length before′ ≡ length before
-      → Named (nameAnswer call v) before r after → Named (nameAnswer call w) before′ r′ after′
-      → (r′ ≡ r) × (after′ ≡ after)
+      (call : NameCall) (allowance : ℕ) (before before′ after after′ : List ℕ) (r r′ : Reply) (left left′ : ℕ) → length before′ ≡ length before
+      → NamedCharged (nameCharged call v allowance) before r after left → NamedCharged (nameCharged call w allowance) before′ r′ after′ left′
+      → (r′ ≡ r) × (after′ ≡ after) × (left′ ≡ left)
   pub all-else-same : {A : Type 0} (answer : View → A) → answer w ≡ answer v
 
 -- First half: an allowed rearrangement changes nothing that is answered.

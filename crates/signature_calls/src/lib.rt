@@ -1,13 +1,13 @@
 // The calls for what a method's signature says (ECMA-335 II.23.2.1): its return type, and how many parameters it has, with the type and
-// the name of each.
-use buffers::Reply;
+// the name of each. Each counts the type bytes of all readings of the whole signature.
 use classes::ClassNumber;
 use header::Options;
 use questions::NameQuestion;
 use questions::NumberQuestion;
-ghost use Rattle.buffers.specs.Replies.{Named};
+use steps::Charged;
 ghost use Rattle.record.specs.View.{view};
-ghost use Rattle.record.specs.Answers.{Numbered, returnType, parameterCount, parameterType, parameterName};
+ghost use Rattle.record.specs.Answers.{ReturnType, ParameterCount, ParameterType, ParameterName};
+ghost use Rattle.record.specs.Allowance.{numberCharged, nameCharged, NumberedCharged, NamedCharged};
 
 // The return type of method m of a class.
 pub fn return_type(
@@ -15,15 +15,16 @@ pub fn return_type(
     strings: &[u8],
     blob: &[u8],
     options: Options,
+    steps: u64,
     class: ClassNumber,
     m: u32,
     buf: &mut [u8],
-) -> Reply
+) -> Charged
     ensures { λ r. let v = view options (now (tables .entry)) (now (strings .entry)) (now (blob .entry)) in
-        ⌜ Named (returnType v (class .0) m) (now (buf .entry)) r (now (buf .exit)) ⌝ }
+        ⌜ NamedCharged (nameCharged (ReturnType (class .0) m) v steps) (now (buf .entry)) (r .reply) (now (buf .exit)) (r .left) ⌝ }
 {
     let returned = NameQuestion::ReturnType(class, m);
-    asks::ask_name(tables, strings, blob, options, returned, buf)
+    asks::ask_name(tables, strings, blob, options, steps, returned, buf)
 }
 
 // How many parameters method m of a class has.
@@ -32,14 +33,15 @@ pub fn param_count(
     strings: &[u8],
     blob: &[u8],
     options: Options,
+    steps: u64,
     class: ClassNumber,
     m: u32,
-) -> Reply
+) -> Charged
     ensures { λ r. let v = view options (now (tables .entry)) (now (strings .entry)) (now (blob .entry)) in
-        ⌜ Numbered (parameterCount v (class .0) m) r ⌝ }
+        ⌜ NumberedCharged (numberCharged (ParameterCount (class .0) m) v steps) (r .reply) (r .left) ⌝ }
 {
     let count = NumberQuestion::ParamCount(class, m);
-    asks::ask_number(tables, strings, blob, options, count)
+    asks::ask_number(tables, strings, blob, options, steps, count)
 }
 
 // The type of parameter p of method m of a class.
@@ -48,16 +50,17 @@ pub fn param_type(
     strings: &[u8],
     blob: &[u8],
     options: Options,
+    steps: u64,
     class: ClassNumber,
     m: u32,
     p: u32,
     buf: &mut [u8],
-) -> Reply
+) -> Charged
     ensures { λ r. let v = view options (now (tables .entry)) (now (strings .entry)) (now (blob .entry)) in
-        ⌜ Named (parameterType v (class .0) m p) (now (buf .entry)) r (now (buf .exit)) ⌝ }
+        ⌜ NamedCharged (nameCharged (ParameterType (class .0) m p) v steps) (now (buf .entry)) (r .reply) (now (buf .exit)) (r .left) ⌝ }
 {
     let type_of = NameQuestion::ParamType(class, m, p);
-    asks::ask_name(tables, strings, blob, options, type_of, buf)
+    asks::ask_name(tables, strings, blob, options, steps, type_of, buf)
 }
 
 // The name of parameter p of method m of a class.
@@ -66,14 +69,15 @@ pub fn param_name(
     strings: &[u8],
     blob: &[u8],
     options: Options,
+    steps: u64,
     class: ClassNumber,
     m: u32,
     p: u32,
     buf: &mut [u8],
-) -> Reply
+) -> Charged
     ensures { λ r. let v = view options (now (tables .entry)) (now (strings .entry)) (now (blob .entry)) in
-        ⌜ Named (parameterName v (class .0) m p) (now (buf .entry)) r (now (buf .exit)) ⌝ }
+        ⌜ NamedCharged (nameCharged (ParameterName (class .0) m p) v steps) (now (buf .entry)) (r .reply) (now (buf .exit)) (r .left) ⌝ }
 {
     let name = NameQuestion::ParamName(class, m, p);
-    asks::ask_name(tables, strings, blob, options, name, buf)
+    asks::ask_name(tables, strings, blob, options, steps, name, buf)
 }

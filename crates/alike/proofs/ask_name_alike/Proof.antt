@@ -28,7 +28,7 @@ returns : tie.Need-returns
 returns c =
     let start = c .before .before .before .before .before .before .before .before .before .before .before .before .before .before in
     let a = start .args in
-    name-alike (start .pre .0) (a .strings .now) (a .blob .now) (nameCall (a .question)) (start .pre .1) (c .before .before .before .before .before .before .ask-name .ensures) (c .before .before .ask-name2 .ensures)
+    name-alike (start .pre .0) (a .strings .now) (a .blob .now) (nameCall (a .question)) (a .steps) (start .pre .1) (c .before .before .before .before .before .before .ask-name .ensures) (c .before .before .ask-name2 .ensures)
 
 pub ask-name-alike-spec : {M : Type 1} → statement M
 ask-name-alike-spec =

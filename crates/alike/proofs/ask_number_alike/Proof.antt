@@ -20,7 +20,7 @@ returns : tie.Need-returns
 returns c =
     let start = c .before .before .before .before .before .before in
     let a = start .args in
-    number-alike (start .pre) (a .strings .now) (a .blob .now) (numberCall (a .question)) (c .before .ask-number .result) (c .ask-number2 .result) (c .before .ask-number .ensures) (c .ask-number2 .ensures)
+    number-alike (start .pre) (a .strings .now) (a .blob .now) (numberCall (a .question)) (a .steps) (c .before .ask-number .ensures) (c .ask-number2 .ensures)
 
 pub ask-number-alike-spec : {M : Type 1} → statement M
 ask-number-alike-spec = tie.close (tie.spec ask-number-requires ask-number-requires-2 returns)

@@ -6,7 +6,7 @@ use Rattle.asks.proofs.ask_name.Statement.{statement}
 use Rattle.asks.proofs.ask_name.Tie as tie
 use Rattle.asks.proofs.ask_name.Reads as reads
 use Rattle.asks.proofs.ask_name.Lts as lts
-use Rattle.answers.proofs.answer_name.Reads as answer-name-reads
+use Rattle.charges.proofs.charge_name.Reads as charge-name-reads
 use Rattle.buffers.proofs.refuse.Reads as refuse-reads
 use Rattle.opening.proofs.open.Reads as open-reads
 
@@ -29,12 +29,12 @@ refuse-requires c κs = search needs
 enum-told : tie.Need-enum-told
 enum-told c = search needs
 
-slice-aggregate-answer-name : tie.Need-slice-aggregate-answer-name
-slice-aggregate-answer-name c = search needs
+slice-aggregate-charge-name : tie.Need-slice-aggregate-charge-name
+slice-aggregate-charge-name c = search needs
 
 -- src/lib.rt:46:28
-answer-name-requires : tie.Need-answer-name-requires
-answer-name-requires c κs = opened-laid (c .before .before .before .before .before .«open» .ensures) (c .before .before .enum-told .given .1)
+charge-name-requires : tie.Need-charge-name-requires
+charge-name-requires c κs = opened-laid (c .before .before .before .before .before .«open» .ensures) (c .before .before .enum-told .given .1)
 
 -- src/lib.rt:32:1
 same-length : tie.Need-same-length
@@ -42,7 +42,7 @@ same-length c = search needs
 
 -- src/lib.rt:32:1
 returns : tie.Need-returns
-returns c = name-refused _ _ (c .before .before .before .before .before .before .before .before .«open» .ensures) (c .before .before .before .before .before .why .given .1) (nameCall (c .before .before .before .before .before .before .before .before .before .before .before .before .before .before .args .question)) (c .before .before .refuse .ensures)
+returns c = name-refused _ _ (c .before .before .before .before .before .before .before .before .«open» .ensures) (c .before .before .before .before .before .why .given .1) (nameCall (c .before .before .before .before .before .before .before .before .before .before .before .before .before .before .args .question)) (c .before .before .before .before .before .before .before .before .before .before .before .before .before .before .args .steps) (c .before .before .refuse .ensures)
 
 -- src/lib.rt:32:1
 same-length-2 : tie.Need-same-length-2
@@ -50,7 +50,7 @@ same-length-2 c = search needs
 
 -- src/lib.rt:32:1
 returns-2 : tie.Need-returns-2
-returns-2 c = name-ready _ _ (c .before .before .before .before .before .before .before .before .«open» .ensures) (c .before .before .before .before .before .enum-told .given .1) (nameCall (c .before .before .before .before .before .before .before .before .before .before .before .before .before .before .args .question)) (c .before .before .answer-name .ensures)
+returns-2 c = name-ready _ _ (c .before .before .before .before .before .before .before .before .«open» .ensures) (c .before .before .before .before .before .enum-told .given .1) (nameCall (c .before .before .before .before .before .before .before .before .before .before .before .before .before .before .args .question)) (c .before .before .before .before .before .before .before .before .before .before .before .before .before .before .args .steps) (c .before .before .charge-name .ensures)
 
 pub ask-name-spec : {M : Type 1} → statement M
 ask-name-spec =
@@ -61,8 +61,8 @@ ask-name-spec =
     enum-known-why
     refuse-requires
     enum-told
-    slice-aggregate-answer-name
-    answer-name-requires
+    slice-aggregate-charge-name
+    charge-name-requires
     same-length
     returns
     same-length-2

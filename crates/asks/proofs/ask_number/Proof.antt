@@ -6,7 +6,7 @@ use Rattle.asks.proofs.ask_number.Statement.{statement}
 use Rattle.asks.proofs.ask_number.Tie as tie
 use Rattle.asks.proofs.ask_number.Reads as reads
 use Rattle.asks.proofs.ask_number.Lts as lts
-use Rattle.answers.proofs.answer_number.Reads as answer-number-reads
+use Rattle.charges.proofs.charge_number.Reads as charge-number-reads
 use Rattle.opening.proofs.open.Reads as open-reads
 
 slice-aggregate-open : tie.Need-slice-aggregate-open
@@ -24,20 +24,20 @@ enum-known-why c = search needs
 enum-told : tie.Need-enum-told
 enum-told c = search needs
 
-slice-aggregate-answer-number : tie.Need-slice-aggregate-answer-number
-slice-aggregate-answer-number c = search needs
+slice-aggregate-charge-number : tie.Need-slice-aggregate-charge-number
+slice-aggregate-charge-number c = search needs
 
 -- src/lib.rt:27:26
-answer-number-requires : tie.Need-answer-number-requires
-answer-number-requires c κs = opened-laid (c .before .before .before .before .«open» .ensures) (c .before .enum-told .given .1)
+charge-number-requires : tie.Need-charge-number-requires
+charge-number-requires c κs = opened-laid (c .before .before .before .before .«open» .ensures) (c .before .enum-told .given .1)
 
 -- src/lib.rt:14:1
 returns : tie.Need-returns
-returns c = number-refused _ _ (c .before .before .before .before .«open» .ensures) (c .before .why .given .1) (numberCall (c .before .before .before .before .before .before .before .before .before .args .question))
+returns c = number-refused _ _ (c .before .before .before .before .«open» .ensures) (c .before .why .given .1) (numberCall (c .before .before .before .before .before .before .before .before .before .args .question)) (c .before .before .before .before .before .before .before .before .before .args .steps)
 
 -- src/lib.rt:14:1
 returns-2 : tie.Need-returns-2
-returns-2 c = number-ready _ _ (c .before .before .before .before .before .«open» .ensures) (c .before .before .enum-told .given .1) (numberCall (c .before .before .before .before .before .before .before .before .before .before .args .question)) (c .answer-number .result) (c .answer-number .ensures)
+returns-2 c = number-ready _ _ (c .before .before .before .before .before .«open» .ensures) (c .before .before .enum-told .given .1) (numberCall (c .before .before .before .before .before .before .before .before .before .before .args .question)) (c .before .before .before .before .before .before .before .before .before .before .args .steps) (c .charge-number .ensures)
 
 pub ask-number-spec : {M : Type 1} → statement M
 ask-number-spec =
@@ -47,7 +47,7 @@ ask-number-spec =
     open-requires
     enum-known-why
     enum-told
-    slice-aggregate-answer-number
-    answer-number-requires
+    slice-aggregate-charge-number
+    charge-number-requires
     returns
     returns-2)

@@ -8,33 +8,26 @@ use Rattle.answers.proofs.answer_number.Reads as answer-number-reads
 use Rattle.charges.proofs.tally_number.Reads as tally-number-reads
 use Rattle.steps.proofs.left_after.Reads as left-after-reads
 
--- src/lib.rt:141:11
 tally-number-requires : tie.Need-tally-number-requires
 tally-number-requires c κs = search needs
 
--- src/lib.rt:142:21
 enum-known-after : tie.Need-enum-known-after
 enum-known-after c = search needs
 
--- src/lib.rt:143:17
 answer-number-requires : tie.Need-answer-number-requires
 answer-number-requires c κs = search needs
 
--- src/lib.rt:146:23
 left-after-requires : tie.Need-left-after-requires
 left-after-requires c κs = search needs
 
--- src/lib.rt:150:30
 enum-told : tie.Need-enum-told
 enum-told c = search needs
 
--- src/lib.rt:129:1
 returns : tie.Need-returns
 returns c =
     let tallied = c .before .before .before .before .before in
     number-left _ _ (tallied .tally-number .ensures) (c .before .before .before .after .given .1) (c .left-after .ensures) _ (c .before .answer-number .ensures)
 
--- src/lib.rt:129:1
 returns-2 : tie.Need-returns-2
 returns-2 c = number-spent _ _ (c .before .before .tally-number .ensures) (c .enum-told .given .1) _
 

@@ -7,85 +7,65 @@ use Rattle.charges.proofs.tally_name.Lts as lts
 use Rattle.charges.proofs.tally_method.Reads as tally-method-reads
 use Rattle.class_answers.proofs.pass_bases_of.Reads as pass-bases-of-reads
 
--- src/lib.rt:96:32
 enum-known-question : tie.Need-enum-known-question
 enum-known-question c = search needs
 
--- src/lib.rt:97:17
 pass-bases-of-requires : tie.Need-pass-bases-of-requires
 pass-bases-of-requires c κs = search needs
 
--- src/lib.rt:100:34
 enum-known-question-2 : tie.Need-enum-known-question-2
 enum-known-question-2 c = search needs
 
--- src/lib.rt:101:13
 tally-method-requires : tie.Need-tally-method-requires
 tally-method-requires c κs = search needs
 
--- src/lib.rt:103:33
 enum-known-question-3 : tie.Need-enum-known-question-3
 enum-known-question-3 c = search needs
 
--- src/lib.rt:104:13
 tally-method-requires-2 : tie.Need-tally-method-requires-2
 tally-method-requires-2 c κs = search needs
 
--- src/lib.rt:106:33
 enum-known-question-4 : tie.Need-enum-known-question-4
 enum-known-question-4 c = search needs
 
--- src/lib.rt:107:13
 tally-method-requires-3 : tie.Need-tally-method-requires-3
 tally-method-requires-3 c κs = search needs
 
--- src/lib.rt:110:20
 enum-told : tie.Need-enum-told
 enum-told c = search needs
 
--- src/lib.rt:114:20
 enum-told-2 : tie.Need-enum-told-2
 enum-told-2 c = search needs
 
--- src/lib.rt:118:20
 enum-told-3 : tie.Need-enum-told-3
 enum-told-3 c = search needs
 
--- src/lib.rt:122:20
 enum-told-4 : tie.Need-enum-told-4
 enum-told-4 c = search needs
 
--- src/lib.rt:81:1
 returns : tie.Need-returns
-returns c = (rw (c .before .before .question .given .1) (c .pass-bases-of .ensures), c .before .before .before .before .before .before .before .before .pre .1)
+returns c = rw (c .before .before .question .given .1) (c .pass-bases-of .ensures)
 
--- src/lib.rt:81:1
 returns-2 : tie.Need-returns-2
 returns-2 c = rw (c .before .before .question2 .given .1) (c .tally-method .ensures)
 
--- src/lib.rt:81:1
 returns-3 : tie.Need-returns-3
 returns-3 c = rw (c .before .before .question3 .given .1) (c .tally-method2 .ensures)
 
--- src/lib.rt:81:1
 returns-4 : tie.Need-returns-4
 returns-4 c = rw (c .before .before .question4 .given .1) (c .tally-method3 .ensures)
 
--- src/lib.rt:81:1
 returns-5 : tie.Need-returns-5
-returns-5 c = (rw (c .enum-told .given .1) (takes-nothing _), c .before .before .before .before .before .before .pre .1)
+returns-5 c = rw (c .enum-told .given .1) (takes-nothing _)
 
--- src/lib.rt:81:1
 returns-6 : tie.Need-returns-6
-returns-6 c = (rw (c .enum-told2 .given .1) (takes-nothing _), c .before .before .before .before .before .before .pre .1)
+returns-6 c = rw (c .enum-told2 .given .1) (takes-nothing _)
 
--- src/lib.rt:81:1
 returns-7 : tie.Need-returns-7
-returns-7 c = (rw (c .enum-told3 .given .1) (takes-nothing _), c .before .before .before .before .before .before .pre .1)
+returns-7 c = rw (c .enum-told3 .given .1) (takes-nothing _)
 
--- src/lib.rt:81:1
 returns-8 : tie.Need-returns-8
-returns-8 c = (rw (c .enum-told4 .given .1) (takes-nothing _), c .before .before .before .before .before .before .pre .1)
+returns-8 c = rw (c .enum-told4 .given .1) (takes-nothing _)
 
 pub tally-name-spec : {M : Type 1} → statement M
 tally-name-spec =

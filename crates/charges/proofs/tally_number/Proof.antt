@@ -6,81 +6,58 @@ use Rattle.charges.proofs.tally_number.Reads as reads
 use Rattle.charges.proofs.tally_number.Lts as lts
 use Rattle.charges.proofs.tally_method.Reads as tally-method-reads
 use Rattle.class_answers.proofs.pass_bases_of.Reads as pass-bases-of-reads
-use Rattle.places.proofs.no_own.Reads as no-own-reads
 
--- src/lib.rt:63:35
 enum-known-question : tie.Need-enum-known-question
 enum-known-question c = search needs
 
--- src/lib.rt:64:13
 pass-bases-of-requires : tie.Need-pass-bases-of-requires
 pass-bases-of-requires c κs = search needs
 
--- src/lib.rt:66:36
 enum-known-question-2 : tie.Need-enum-known-question-2
 enum-known-question-2 c = search needs
 
--- src/lib.rt:67:75
-no-own-requires : tie.Need-no-own-requires
-no-own-requires c κs = search needs
-
--- src/lib.rt:67:17
 tally-method-requires : tie.Need-tally-method-requires
-tally-method-requires c κs = (c .before .before .before .before .before .before .before .before .pre, c .no-own .ensures _)
+tally-method-requires c κs = search needs
 
--- src/lib.rt:71:39
 enum-told : tie.Need-enum-told
 enum-told c = search needs
 
--- src/lib.rt:72:42
 enum-told-2 : tie.Need-enum-told-2
 enum-told-2 c = search needs
 
--- src/lib.rt:73:44
 enum-told-3 : tie.Need-enum-told-3
 enum-told-3 c = search needs
 
--- src/lib.rt:74:43
 enum-told-4 : tie.Need-enum-told-4
 enum-told-4 c = search needs
 
--- src/lib.rt:75:46
 enum-told-5 : tie.Need-enum-told-5
 enum-told-5 c = search needs
 
--- src/lib.rt:76:53
 enum-told-6 : tie.Need-enum-told-6
 enum-told-6 c = search needs
 
--- src/lib.rt:50:1
 returns : tie.Need-returns
 returns c = rw (c .before .before .question .given .1) (c .pass-bases-of .ensures)
 
--- src/lib.rt:50:1
 returns-2 : tie.Need-returns-2
-returns-2 c = rw (c .before .before .before .question2 .given .1) (c .tally-method .ensures .0)
+returns-2 c = rw (c .before .before .question2 .given .1) (c .tally-method .ensures)
 
--- src/lib.rt:50:1
 returns-3 : tie.Need-returns-3
 returns-3 c = rw (c .enum-told .given .1) (takes-nothing _)
 
--- src/lib.rt:50:1
 returns-4 : tie.Need-returns-4
 returns-4 c = rw (c .enum-told2 .given .1) (takes-nothing _)
 
--- src/lib.rt:50:1
 returns-5 : tie.Need-returns-5
 returns-5 c = rw (c .enum-told3 .given .1) (takes-nothing _)
 
--- src/lib.rt:50:1
 returns-6 : tie.Need-returns-6
 returns-6 c = rw (c .enum-told4 .given .1) (takes-nothing _)
 
--- src/lib.rt:50:1
 returns-7 : tie.Need-returns-7
 returns-7 c = rw (c .enum-told5 .given .1) (takes-nothing _)
 
--- src/lib.rt:50:1
 returns-8 : tie.Need-returns-8
 returns-8 c = rw (c .enum-told6 .given .1) (takes-nothing _)
 
@@ -91,7 +68,6 @@ tally-number-spec =
     enum-known-question
     pass-bases-of-requires
     enum-known-question-2
-    no-own-requires
     tally-method-requires
     enum-told
     enum-told-2

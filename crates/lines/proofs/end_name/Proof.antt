@@ -5,7 +5,7 @@ use Rattle.lines.proofs.end_name.Statement.{statement}
 use Rattle.lines.proofs.end_name.Tie as tie
 use Rattle.lines.proofs.end_name.Reads as reads
 use Rattle.lines.proofs.end_name.Lts as lts
-use Rattle.buffers.proofs.push.Reads as push-reads
+use Rattle.lines.proofs.end_spent.Reads as end-spent-reads
 use Rattle.buffers.proofs.put.Reads as put-reads
 use Rattle.escapes.proofs.escape.Reads as escape-reads
 
@@ -13,13 +13,9 @@ use Rattle.escapes.proofs.escape.Reads as escape-reads
 sub-if1 : tie.Need-sub-if1
 sub-if1 c = search needs
 
--- src/lib.rt:130:33
-slice-aggregate-push : tie.Need-slice-aggregate-push
-slice-aggregate-push c = search needs
-
 -- src/lib.rt:130:9
-push-requires : tie.Need-push-requires
-push-requires c κs = search needs
+end-spent-requires : tie.Need-end-spent-requires
+end-spent-requires c κs = search needs
 
 -- src/lib.rt:130:9
 same-length : tie.Need-same-length
@@ -27,7 +23,7 @@ same-length c = search needs
 
 -- src/lib.rt:130:9
 returns : tie.Need-returns
-returns c = λ o o₁ at key t k w. ends-long k w (is-long k w (c .before .before .before .before .before .before .before .pre .0) (c .before .before .before .before .before .if1 .taken)) (c .before .before .push .ensures)
+returns c = λ o o₁ at key t k w. ends-long k w (is-long k w (c .before .before .before .before .before .before .pre .0) (c .before .before .before .before .if1 .taken)) (c .before .before .end-spent .ensures _ _ _ _ k (w .keeps))
 
 -- src/lib.rt:132:9
 escape-requires : tie.Need-escape-requires
@@ -52,8 +48,7 @@ end-name-spec =
     tie.close
     (tie.spec
     sub-if1
-    slice-aggregate-push
-    push-requires
+    end-spent-requires
     same-length
     returns
     escape-requires

@@ -242,6 +242,18 @@ slice-aggregate-push-11 c = search needs
 push-requires-11 : tie.Need-push-requires-11
 push-requires-11 c κs = search needs
 
+next-number-requires-6 : tie.Need-next-number-requires-6
+next-number-requires-6 c κs = search needs
+
+next-number-requires-7 : tie.Need-next-number-requires-7
+next-number-requires-7 c κs = search needs
+
+cursor-at-requires-17 : tie.Need-cursor-at-requires-17
+cursor-at-requires-17 c κs = search needs
+
+cursor-at-requires-18 : tie.Need-cursor-at-requires-18
+cursor-at-requires-18 c κs = search needs
+
 -- src/lib.rt:191:24
 enum-told-13 : tie.Need-enum-told-13
 enum-told-13 c = search needs
@@ -320,7 +332,7 @@ same-length-9 c = search needs
 
 -- src/lib.rt:113:1
 returns-10 : tie.Need-returns-10
-returns-10 c = λ v. name (q "returns=") (omega arith) (c .before .before .push9 .ensures) (returns-shows v _ (c .before .before .before .before .before .before .enum-told10 .given .1) (c .before .before .before .before .before .cursor-at13 .ensures))
+returns-10 c = λ v. name (q "returns=") (omega arith) (c .before .before .before .before .before .push9 .ensures) (returns-shows v _ (c .before .before .before .before .before .before .before .before .enum-told10 .given .1) (c .before .before .cursor-at13 .ensures) (c .before .next-number4 .ensures) (c .cursor-at14 .ensures))
 
 -- src/lib.rt:113:1
 same-length-10 : tie.Need-same-length-10
@@ -328,7 +340,7 @@ same-length-10 c = search needs
 
 -- src/lib.rt:113:1
 returns-11 : tie.Need-returns-11
-returns-11 c = λ v. name (q "ptype=") (omega arith) (c .before .before .before .before .before .push10 .ensures) (param-type-shows v _ (c .before .before .before .before .before .before .before .before .enum-told11 .given .1) (c .before .before .cursor-at14 .ensures) (c .before .next-number4 .ensures) (c .cursor-at15 .ensures))
+returns-11 c = λ v. name (q "ptype=") (omega arith) (c .before .before .before .before .before .push10 .ensures) (param-type-shows v _ (c .before .before .before .before .before .before .before .before .enum-told11 .given .1) (c .before .before .cursor-at15 .ensures) (c .before .next-number5 .ensures) (c .cursor-at16 .ensures))
 
 -- src/lib.rt:113:1
 same-length-11 : tie.Need-same-length-11
@@ -336,7 +348,7 @@ same-length-11 c = search needs
 
 -- src/lib.rt:113:1
 returns-12 : tie.Need-returns-12
-returns-12 c = λ v. name (q "pname=") (omega arith) (c .before .before .push11 .ensures) (param-name-shows v _ (c .before .before .before .before .before .before .before .enum-told12 .given .1) (c .before .before .before .before .before .before .next-number5 .ensures) (c .before .before .before .before .before .cursor-at16 .ensures))
+returns-12 c = λ v. name (q "pname=") (omega arith) (c .before .before .before .before .before .before .push11 .ensures) (param-name-shows v _ (c .before .before .before .before .before .before .before .before .before .enum-told12 .given .1) (c .before .before .before .next-number6 .ensures) (c .before .before .cursor-at17 .ensures) (c .before .next-number7 .ensures) (c .cursor-at18 .ensures))
 
 -- src/lib.rt:113:1
 returns-13 : tie.Need-returns-13
@@ -389,20 +401,24 @@ begin-line-spec =
     cursor-at-requires-11
     cursor-at-requires-12
     enum-told-10
-    cursor-at-requires-13
     slice-aggregate-push-9
     push-requires-9
+    cursor-at-requires-13
+    next-number-requires-4
+    cursor-at-requires-14
     enum-told-11
     slice-aggregate-push-10
     push-requires-10
-    cursor-at-requires-14
-    next-number-requires-4
     cursor-at-requires-15
-    enum-told-12
     next-number-requires-5
     cursor-at-requires-16
+    enum-told-12
     slice-aggregate-push-11
     push-requires-11
+    next-number-requires-6
+    cursor-at-requires-17
+    next-number-requires-7
+    cursor-at-requires-18
     enum-told-13
     returns
     same-length

@@ -7,8 +7,11 @@ use Rattle.call_vectors.proofs.answers.ask_in.Tie as tie
 use Rattle.call_vectors.proofs.answers.ask_in.Reads as reads
 use Rattle.call_vectors.proofs.answers.ask_in.Lts as lts
 use Rattle.call_vectors.proofs.answers.ask_name.Reads as ask-name-reads
+use Rattle.call_vectors.proofs.answers.no_call.Reads as no-call-reads
 
--- src/answers.rt:279:9
+no-call-requires : tie.Need-no-call-requires
+no-call-requires c κs = search needs
+
 returns : tie.Need-returns
 returns c = search needs
 
@@ -36,6 +39,7 @@ pub ask-in-spec : {M : Type 1} → statement M
 ask-in-spec =
     tie.close
     (tie.spec
+    no-call-requires
     returns
     slice-relend-prefix-ask-name
     slice-aggregate-ask-name

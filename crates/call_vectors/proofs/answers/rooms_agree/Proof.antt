@@ -7,10 +7,10 @@ use Rattle.call_vectors.proofs.answers.rooms_agree.Lts as lts
 use Rattle.call_vectors.proofs.answers.room_agrees.Reads as room-agrees-reads
 
 abbrev Inv-loop : tie.InvT-loop
-Inv-loop call tables strings blob asked refusal name last room₀ room = Unit {0}
+Inv-loop way call tables strings blob asked refusal name last room₀ room = Unit {0}
 
 abbrev μ-loop : tie.MeasureT-loop
-μ-loop call tables strings blob asked refusal name last room₀ room = 1 + last - room
+μ-loop way call tables strings blob asked refusal name last room₀ room = 1 + last - room
 
 -- src/answers.rt:213:9
 returns : tie.Need-returns Inv-loop μ-loop
