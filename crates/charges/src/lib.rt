@@ -29,7 +29,7 @@ const CEILING: u64 = 1_000_000;
 // What is left after 11.
 const NOTHING: u64 = 0;
 
-// What all readings of the signature of method m of a class take.
+// What the readings of the signature of method m of a class take.
 fn tally_method(
     tables: &[u8],
     strings: &[u8],
