@@ -92,7 +92,8 @@ pub fn name_line(
         ⌜ ((o : List ℕ) (key : Text) → Wrote o at key (now (out .entry)) start → Went (nameLine key a) (cond (goesOn a) more past) o at
         (now (out .exit)) (r .step)) × Knows v (now (blob .entry)) (r .known) ⌝ }
 {
-    if !charges::is_within(question, known.subject, known.method) {
+    let mut counted = known;
+    if !charges::is_within(question, known.all, known.subject, known.method) {
         let own = known.own;
         if charges::is_over(tables, strings, blob, layout, question, own) {
             if comes_first(question) {
@@ -108,12 +109,12 @@ pub fn name_line(
                 known,
             };
         }
+        counted = answers::with_subject(
+            known,
+            charges::subject_of(question),
+            charges::method_of(question),
+        );
     }
-    let counted = answers::with_subject(
-        known,
-        charges::subject_of(question),
-        charges::method_of(question),
-    );
     let answered = answers::tell_name(out, start, tables, strings, blob, layout, question, counted);
     let told = answered.told;
     let after = answered.known;

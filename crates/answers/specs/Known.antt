@@ -1,6 +1,6 @@
 -- What one question has learnt for the next.
 use mathlib.Core.Path.{_≡_}
-use mathlib.Core.Bool.{false}
+use mathlib.Core.Bool.{true, false}
 use mathlib.Core.List.{List}
 use Prim.Native.Nat.{ℕ, _+_, _*_}
 use Rattle.record.specs.View.{View}
@@ -33,7 +33,10 @@ methodMeant (ReturnType c m) = m
 methodMeant (ParameterType c m p) = m
 methodMeant (ParameterName c m p) = m
 
--- What these two numbers say is within the ceiling of a listing.
+-- Every name is within the ceiling of a listing; and what these two numbers say is.
+abbrev pub AllFit : View → Type 0
+AllFit v = (call : NameCall) → isOver (nameWork call v) ≡ false
+
 abbrev pub Fits : View → ℕ → ℕ → Type 0
 Fits v s m = (call : NameCall) → subject call ≡ s → methodMeant call ≡ m → isOver (nameWork call v) ≡ false
 
@@ -42,4 +45,5 @@ pub record Knows (v : View) (heap : List ℕ) (k : Known) : Type 0 where
   pub own : Owns v (k .own)
   pub signature : KnowsSignature v heap (k .signature)
   pub bases : KnowsBases v (k .bases)
+  pub all : k .all ≡ true → AllFit v
   pub fits : Fits v (k .subject) (k .method)

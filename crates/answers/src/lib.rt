@@ -8,6 +8,8 @@ use method_signatures::Signature;
 use places::Own;
 use questions::NameQuestion;
 use questions::NumberQuestion;
+ghost use mathlib.Core.Path.{_≡_};
+ghost use mathlib.Core.Bool.{true};
 ghost use mathlib.Core.List.{List};
 ghost use Prim.Native.Nat.{ℕ};
 ghost use Rattle.buffers.specs.Replies.{Named};
@@ -19,13 +21,14 @@ ghost use Rattle.questions.specs.Questions.{numberCall, nameCall};
 ghost use Rattle.places.specs.Places.{Owns};
 ghost use Rattle.method_signatures.specs.Known.{KnowsSignature};
 ghost use Rattle.bases.specs.Candidates.{KnowsBases};
-ghost use Rattle.answers.specs.Known.{Fits, Knows};
+ghost use Rattle.answers.specs.Known.{AllFit, Fits, Knows};
 
-// What is known; and by two numbers what was counted last and is within the ceiling of a listing.
+// What is known; and of the ceiling of a listing: whether every name is within it, and by two numbers what was counted last and is.
 pub struct Known {
     pub own: Own,
     pub signature: Signature,
     pub bases: Bases,
+    pub all: bool,
     pub subject: usize,
     pub method: u32,
 }
@@ -53,6 +56,7 @@ pub fn nothing_known() -> Known
         own,
         signature,
         bases,
+        all: false,
         subject: 0,
         method: 0,
     }
@@ -68,6 +72,7 @@ fn with_own(known: Known, own: Own) -> Known
         own,
         signature,
         bases,
+        all: known.all,
         subject: known.subject,
         method: known.method,
     }
@@ -83,6 +88,7 @@ fn with_signature(known: Known, own: Own, signature: Signature) -> Known
         own,
         signature,
         bases,
+        all: known.all,
         subject: known.subject,
         method: known.method,
     }
@@ -98,6 +104,7 @@ fn with_bases(known: Known, bases: Bases) -> Known
         own,
         signature,
         bases,
+        all: known.all,
         subject: known.subject,
         method: known.method,
     }
@@ -114,8 +121,27 @@ pub fn with_subject(known: Known, subject: usize, method: u32) -> Known
         own,
         signature,
         bases,
+        all: known.all,
         subject,
         method,
+    }
+}
+
+// Nothing is known but whether every name is within the ceiling.
+pub fn known_of_all(all: bool) -> Known
+    ensures { λ r. ⌜ ((v : View) (heap : List ℕ) → (all ≡ true → AllFit v) → Knows v heap r) ⌝ }
+{
+    let nothing = nothing_known();
+    let own = nothing.own;
+    let signature = nothing.signature;
+    let bases = nothing.bases;
+    Known {
+        own,
+        signature,
+        bases,
+        all,
+        subject: 0,
+        method: 0,
     }
 }
 

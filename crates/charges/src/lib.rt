@@ -1,5 +1,6 @@
 // The answer to any question of a stream that is opened, within an allowance of steps (request 2026-06): what it counts is passed over
 // first, so that nothing is rendered of what is too much; and what is left is told.
+use answers::Known;
 use buffers::Refusal;
 use buffers::Reply;
 use classes::ClassNumber;
@@ -7,6 +8,7 @@ use numbers::wide;
 use places::Own;
 use questions::NameQuestion;
 use questions::NumberQuestion;
+use rows::columns;
 use steps::Charged;
 use steps::Steps;
 ghost use mathlib.Core.Path.{_≡_};
@@ -19,12 +21,19 @@ ghost use Rattle.record.specs.Allowance.{NumberedCharged, NamedCharged};
 ghost use Rattle.rows.specs.Layout.{Laid, viewIn};
 ghost use Rattle.places.specs.Places.{Owns};
 ghost use Rattle.questions.specs.Questions.{numberCall, nameCall};
-ghost use Rattle.answers.specs.Known.{Fits};
+ghost use Rattle.answers.specs.Known.{AllFit, Fits, Knows};
 ghost use Rattle.answers.specs.Known as known;
 ghost use Rattle.steps.specs.Counting.{Takes};
 
 // What a listing allows for each name.
 const CEILING: u64 = 1_000_000;
+
+// What a stream may have whose every name is surely within that: steps for a TypeSpec row, bytes of the blob heap, rows of InterfaceImpl.
+const SPEC_STEPS: u64 = 63;
+
+const BLOB_BYTES: usize = 15_625;
+
+const INTERFACES: usize = 15_000;
 
 // What is left after 11.
 const NOTHING: u64 = 0;
@@ -200,6 +209,36 @@ pub fn method_of(question: NameQuestion) -> u32
     }
 }
 
+// Whether every name of a stream is surely within the ceiling: it has few rows of interfaces and few bytes of blobs, each of which pays for
+// its own step and for those of a TypeSpec row, and its TypeSpec rows take few.
+fn all_within(tables: &[u8], blob: &[u8], layout: &[u32]) -> bool
+    requires { ⌜ Laid (now tables) (now layout) ⌝ }
+    ensures { λ r. let v = viewIn (now (tables .entry)) (now (layout .entry)) in
+        ⌜ ((strings : List ℕ) → r ≡ true → AllFit (v strings (now (blob .entry)))) ⌝ }
+{
+    if BLOB_BYTES < blob.len() {
+        return false;
+    }
+    if INTERFACES < rows::count_rows(layout, columns::IMPL_CLASS) {
+        return false;
+    }
+    if !rows::is_marked(layout, columns::METHOD_LIST) {
+        return false;
+    }
+    passing::specs_suffice(tables, blob, layout, SPEC_STEPS)
+}
+
+// What is known before the first line of a listing.
+pub fn known_of(tables: &[u8], blob: &[u8], layout: &[u32]) -> Known
+    requires { ⌜ Laid (now tables) (now layout) ⌝ }
+    ensures { λ r. let v = viewIn (now (tables .entry)) (now (layout .entry)) in
+        let b = now (blob .entry) in
+        ⌜ ((strings : List ℕ) → Knows (v strings b) b r) ⌝ }
+{
+    let all = all_within(tables, blob, layout);
+    answers::known_of_all(all)
+}
+
 // Whether all base types of a class count more than a listing allows.
 fn bases_over(
     tables: &[u8],
@@ -257,15 +296,27 @@ fn is_about(question: NameQuestion, subject: usize, method: u32) -> bool
     false
 }
 
-// Whether a question for a name is known to be within the ceiling: it counts nothing, or what the two numbers say.
-pub fn is_within(question: NameQuestion, subject: usize, method: u32) -> bool
-    ensures { λ r. ⌜ ((v : View) → Fits v subject method → r ≡ true → isOver (nameWork (nameCall question) v) ≡ false) ⌝ }
+// Whether what a question counts is known to be within the ceiling: all is, or what the two numbers say.
+fn is_kept(question: NameQuestion, all: bool, subject: usize, method: u32) -> bool
+    ensures { λ r.
+        ⌜ ((v : View) → (all ≡ true → AllFit v) → Fits v subject method → r ≡ true → isOver (nameWork (nameCall question) v) ≡ false) ⌝ }
+{
+    if all {
+        return true;
+    }
+    is_about(question, subject, method)
+}
+
+// Whether a question for a name is known to be within the ceiling. One that counts nothing is, and nothing else is looked at then.
+pub fn is_within(question: NameQuestion, all: bool, subject: usize, method: u32) -> bool
+    ensures { λ r.
+        ⌜ ((v : View) → (all ≡ true → AllFit v) → Fits v subject method → r ≡ true → isOver (nameWork (nameCall question) v) ≡ false) ⌝ }
 {
     match question {
-        NameQuestion::BaseName(_, _) => is_about(question, subject, method),
-        NameQuestion::ReturnType(_, _) => is_about(question, subject, method),
-        NameQuestion::ParamType(_, _, _) => is_about(question, subject, method),
-        NameQuestion::ParamName(_, _, _) => is_about(question, subject, method),
+        NameQuestion::BaseName(_, _) => is_kept(question, all, subject, method),
+        NameQuestion::ReturnType(_, _) => is_kept(question, all, subject, method),
+        NameQuestion::ParamType(_, _, _) => is_kept(question, all, subject, method),
+        NameQuestion::ParamName(_, _, _) => is_kept(question, all, subject, method),
         NameQuestion::ClassName(_) => true,
         NameQuestion::GenericName(_, _) => true,
         NameQuestion::MethodName(_, _) => true,

@@ -98,7 +98,7 @@ fn write_pieces(
     requires { ⌜ ((s b : List ℕ) → viewIn (now tables) (now layout) s b ≡ view options (now tables) s b) ⌝ }
 {
     let mut cursor = lines::first_cursor();
-    let mut known = answers::nothing_known();
+    let mut known = charges::known_of(tables, blob, layout);
     let mut turns: u64 = 0xFFFF_FFFF_FFFF_FFFF;
     while 0 < turns {
         if listing_steps::is_done(cursor) {

@@ -68,8 +68,8 @@ fn fill_held(
     ensures { λ r. let v = view options (now (tables .entry)) (now (strings .entry)) (now (blob .entry)) in
         ⌜ Pieced (pieceOf v (length (now (out .entry))) from) (now (out .entry)) (now (out .exit)) r ⌝ }
 {
-    let known = answers::nothing_known();
     if work.len() < columns::SIZE {
+        let known = charges::known_of(tables, blob, layout);
         let on = listing_steps::fill_opened(
             tables,
             strings,
@@ -83,6 +83,7 @@ fn fill_held(
         return on.step;
     }
     holding::hold(work, tables, layout);
+    let known = charges::known_of(tables, blob, work);
     let on = listing_steps::fill_opened(tables, strings, blob, options, work, from, known, out);
     on.step
 }

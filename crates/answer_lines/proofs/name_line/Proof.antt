@@ -1,4 +1,4 @@
-use mathlib.Core.Path.{_≡_, refl, sym, _∙_}
+use mathlib.Core.Path.{_≡_, refl, sym, subst, _∙_}
 use mathlib.Core.Bool.{false}
 use mathlib.Core.Logic.{⊎-elim}
 use borrow.Author.Tests.{not-false}
@@ -10,6 +10,8 @@ use Rattle.buffers.proofs.Telling.{told-same, told-name, told-missing, told-no-
 use Rattle.lines.proofs.Ending.{line-of-name, line-of-missing, line-of-none, line-of-spent}
 use Rattle.questions.specs.Questions.{nameCall}
 use Rattle.answers.proofs.Within.{fits-so}
+use Rattle.answers.specs.Known.{Knows}
+use Rattle.answers.specs.declared.Known.{Known}
 use Rattle.answer_lines.proofs.Laws.{goes-on, goes-past, shows-plain, shows-spent, shows-none}
 use borrow.Author.Needs.{needs}
 use Rattle.answer_lines.proofs.name_line.Statement.{statement}
@@ -86,16 +88,18 @@ with-subject-requires c κs = search needs
 
 tell-name-requires : tie.Need-tell-name-requires
 tell-name-requires c κs =
-    let meant = c .before .before in
-    let joined = meant .before .before in
-    let judged = joined .before in
-    let start = judged .before .before .before .before .before .before in
+    let joined = c .before in
+    let start = joined .before .before .before .before .before .before .before in
     let a = start .args in
     let v = viewIn (a .tables .now) (a .layout .now) (a .strings .now) (a .blob .now) in
-    let within : isOver (nameWork (nameCall (a .question)) v) ≡ false =
-    ⊎-elim (λ w. sym (w .2 .ensures) ∙ w .3 .left) (λ w. judged .is-within .ensures v (start .pre .1 .0 .fits) (not-false _ (w .left))) (joined .if1 .came) in
-    let fits = fits-so v (nameCall (a .question)) within (meant .before .subject-of .ensures) (meant .method-of .ensures) in
-    (start .pre .0, c .before .with-subject .ensures _ _ (start .pre .1 .0) fits)
+    let knows = start .pre .1 .0 in
+    let kept : Knows v (a .blob .now) (joined .if1 .counted) =
+    ⊎-elim
+    (λ w. subst (λ (k : Known). Knows v (a .blob .now) k) (sym (w .7))
+    (w .6 .ensures _ _ knows (fits-so v (nameCall (a .question)) (sym (w .2 .ensures) ∙ w .3 .left) (w .4 .ensures) (w .5 .ensures))))
+    (λ w. subst (λ (k : Known). Knows v (a .blob .now) k) (sym (w .1)) knows)
+    (joined .if1 .came) in
+    (start .pre .0, kept)
 
 enum-known-told : tie.Need-enum-known-told
 enum-known-told c = search needs
@@ -103,7 +107,7 @@ enum-known-told c = search needs
 end-name-requires : tie.Need-end-name-requires
 end-name-requires c κs =
     let told = c .before .before .before .before .before .before .before in
-    let start = told .before .before .before .before .before .before .before .before .before .before .before .before in
+    let start = told .before .before .before .before .before .before .before .before .before in
     let x = told-name (rw (c .before .before .told .given .1) at (told .tell-name .ensures .0)) in
     (omega (arith, start .pre .1 .1, x .wrote .keeps .long), omega (arith, start .pre .1 .1, x .wrote .place))
 
@@ -125,13 +129,13 @@ same-length-3 c = search needs
 returns-3 : tie.Need-returns-3
 returns-3 c =
     let asked = c .before .before .before .before .before .before .before .before .before .before in
-    let joined = asked .before .before .before .before .before in
+    let joined = asked .before .before in
     let judged = joined .before in
     let start = judged .before .before .before .before .before .before in
     let a = start .args in
     let v = viewIn (a .tables .now) (a .layout .now) (a .strings .now) (a .blob .now) in
     let within : isOver (nameWork (nameCall (a .question)) v) ≡ false =
-    ⊎-elim (λ w. sym (w .2 .ensures) ∙ w .3 .left) (λ w. judged .is-within .ensures v (start .pre .1 .0 .fits) (not-false _ (w .left))) (joined .if1 .came) in
+    ⊎-elim (λ w. sym (w .2 .ensures) ∙ w .3 .left) (λ w. judged .is-within .ensures v (start .pre .1 .0 .all) (start .pre .1 .0 .fits) (not-false _ (w .0 .left))) (joined .if1 .came) in
     let told = asked .tell-name .ensures in
     let plain = shows-plain _ _ refl within in
     let x = told-name (told-same plain (rw (c .before .before .before .before .before .told .given .1) at (told .0))) in (
@@ -147,13 +151,13 @@ same-length-4 c = search needs
 returns-4 : tie.Need-returns-4
 returns-4 c =
     let asked = c .before .before .before .before .before .before .before .before .before in
-    let joined = asked .before .before .before .before .before in
+    let joined = asked .before .before in
     let judged = joined .before in
     let start = judged .before .before .before .before .before .before in
     let a = start .args in
     let v = viewIn (a .tables .now) (a .layout .now) (a .strings .now) (a .blob .now) in
     let within : isOver (nameWork (nameCall (a .question)) v) ≡ false =
-    ⊎-elim (λ w. sym (w .2 .ensures) ∙ w .3 .left) (λ w. judged .is-within .ensures v (start .pre .1 .0 .fits) (not-false _ (w .left))) (joined .if1 .came) in
+    ⊎-elim (λ w. sym (w .2 .ensures) ∙ w .3 .left) (λ w. judged .is-within .ensures v (start .pre .1 .0 .all) (start .pre .1 .0 .fits) (not-false _ (w .0 .left))) (joined .if1 .came) in
     let told = asked .tell-name .ensures in
     let plain = shows-plain _ _ refl within in
     let x = told-missing (told-same plain (rw (c .before .before .before .before .enum-told .given .1) at (told .0))) in (
@@ -169,13 +173,13 @@ same-length-5 c = search needs
 returns-5 : tie.Need-returns-5
 returns-5 c =
     let asked = c .before .before .before .before .before .before .before .before .before in
-    let joined = asked .before .before .before .before .before in
+    let joined = asked .before .before in
     let judged = joined .before in
     let start = judged .before .before .before .before .before .before in
     let a = start .args in
     let v = viewIn (a .tables .now) (a .layout .now) (a .strings .now) (a .blob .now) in
     let within : isOver (nameWork (nameCall (a .question)) v) ≡ false =
-    ⊎-elim (λ w. sym (w .2 .ensures) ∙ w .3 .left) (λ w. judged .is-within .ensures v (start .pre .1 .0 .fits) (not-false _ (w .left))) (joined .if1 .came) in
+    ⊎-elim (λ w. sym (w .2 .ensures) ∙ w .3 .left) (λ w. judged .is-within .ensures v (start .pre .1 .0 .all) (start .pre .1 .0 .fits) (not-false _ (w .0 .left))) (joined .if1 .came) in
     let told = asked .tell-name .ensures in
     let plain = shows-plain _ _ refl within in
     let x = told-no-row (told-same plain (rw (c .before .before .before .before .enum-told2 .given .1) at (told .0))) in (

@@ -1,3 +1,5 @@
+use mathlib.Core.Path.{sym, subst}
+use lib.Dec.{T}
 use Rattle.answers.proofs.Within.{fits-nothing}
 use borrow.Author.Needs.{needs}
 use Rattle.answers.proofs.nothing_known.Statement.{statement}
@@ -22,6 +24,7 @@ returns c = λ v heap. record {
   own = c .before .before .no-own .ensures v;
   signature = c .before .no-signature .ensures v heap;
   bases = c .no-bases .ensures v;
+  all = λ e. absurd (subst T (sym e) tt);
   fits = fits-nothing v;
 }
 

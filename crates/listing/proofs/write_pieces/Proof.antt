@@ -7,7 +7,7 @@ use Rattle.listing.proofs.write_pieces.Statement.{statement}
 use Rattle.listing.proofs.write_pieces.Tie as tie
 use Rattle.listing.proofs.write_pieces.Reads as reads
 use Rattle.listing.proofs.write_pieces.Lts as lts
-use Rattle.answers.proofs.nothing_known.Reads as nothing-known-reads
+use Rattle.charges.proofs.known_of.Reads as known-of-reads
 use Rattle.lines.proofs.first_cursor.Reads as first-cursor-reads
 use Rattle.listing.proofs.write_piece.Reads as write-piece-reads
 use Rattle.listing_steps.proofs.is_done.Reads as is-done-reads
@@ -24,12 +24,12 @@ first-cursor-requires : tie.Need-first-cursor-requires Inv-loop μ-loop
 first-cursor-requires c κs = search needs
 
 -- src/main.rt:88:9
-nothing-known-requires : tie.Need-nothing-known-requires Inv-loop μ-loop
-nothing-known-requires c κs = search needs
+known-of-requires : tie.Need-known-of-requires Inv-loop μ-loop
+known-of-requires c κs = search needs
 
 -- src/main.rt:90:5
 loop-holds : tie.Need-loop-holds Inv-loop μ-loop
-loop-holds c = (c .nothing-known .ensures _ _, refl)
+loop-holds c = (c .known-of .ensures _, refl)
 
 -- src/main.rt:91:12
 is-done-requires : tie.Need-is-done-requires Inv-loop μ-loop
@@ -82,7 +82,7 @@ write-pieces-spec =
     Inv-loop
     μ-loop
     first-cursor-requires
-    nothing-known-requires
+    known-of-requires
     loop-holds
     is-done-requires
     same-length
