@@ -7,18 +7,19 @@ use lines::Step;
 use questions::NameQuestion;
 use questions::NumberQuestion;
 ghost use mathlib.Core.Path.{_≡_};
-ghost use mathlib.Core.Bool.{cond};
+ghost use mathlib.Core.Bool.{false, cond};
 ghost use mathlib.Core.List.{List};
 ghost use Prim.Native.Nat.{ℕ, _+_, _≤_};
 ghost use lib.ListN.{length};
 ghost use Rattle.buffers.specs.Texts.{Text};
 ghost use Rattle.buffers.specs.Writes.{Wrote};
 ghost use Rattle.record.specs.Answers.{numberAnswer};
+ghost use Rattle.record.specs.Allowance.{nameWork, isOver};
 ghost use Rattle.rows.specs.Layout.{Laid, viewIn};
 ghost use Rattle.questions.specs.Questions.{numberCall, nameCall};
 ghost use Rattle.answers.specs.Known.{Knows};
 ghost use Rattle.lines.specs.Lines.{nameRoom, answerLine, nameLine, goesOn};
-ghost use Rattle.lines.specs.Ceiling.{comesFirst, listed};
+ghost use Rattle.lines.specs.Ceiling.{listed};
 ghost use Rattle.lines.specs.Cursors.{Went};
 
 // A step of the listing, and what is known after it.
@@ -53,24 +54,8 @@ pub fn number_line(
     Onward { step, known: after }
 }
 
-// Whether a question's line is the first of those that count the same.
-fn comes_first(question: NameQuestion) -> bool
-    ensures { λ r. ⌜ r ≡ comesFirst (nameCall question) ⌝ }
-{
-    match question {
-        NameQuestion::BaseName(_, b) => b == 0,
-        NameQuestion::ReturnType(_, _) => true,
-        NameQuestion::ClassName(_) => false,
-        NameQuestion::GenericName(_, _) => false,
-        NameQuestion::MethodName(_, _) => false,
-        NameQuestion::MethodGenericName(_, _, _) => false,
-        NameQuestion::ParamType(_, _, _) => false,
-        NameQuestion::ParamName(_, _, _) => false,
-    }
-}
-
-// The line of a name, and where it goes on: to one cursor where the lines of its kind may go on behind it, to the other where they do not,
-// as beyond the ceiling. There is room for a name that is not too long.
+// The line of a name that is within the ceiling, and where it goes on: to one cursor where the lines of its kind may go on behind it, to the
+// other where there is no such row. There is room for a name that is not too long.
 pub fn name_line(
     out: &mut [u8],
     at: usize,
@@ -87,34 +72,13 @@ pub fn name_line(
     requires { ⌜ Laid (now tables) (now layout) ⌝ }
     requires { ⌜ Knows (viewIn (now tables) (now layout) (now strings) (now blob)) (now blob) known ⌝ }
     requires { ⌜ start + nameRoom ≤ length (now out) ⌝ }
+    requires { ⌜ isOver (nameWork (nameCall question) (viewIn (now tables) (now layout) (now strings) (now blob))) ≡ false ⌝ }
     ensures { λ r. let v = viewIn (now (tables .entry)) (now (layout .entry)) (now (strings .entry)) (now (blob .entry)) in
         let a = listed (nameCall question) v in
         ⌜ ((o : List ℕ) (key : Text) → Wrote o at key (now (out .entry)) start → Went (nameLine key a) (cond (goesOn a) more past) o at
         (now (out .exit)) (r .step)) × Knows v (now (blob .entry)) (r .known) ⌝ }
 {
-    if !charges::is_within(question, known.subject, known.method) {
-        let own = known.own;
-        if charges::is_over(tables, strings, blob, layout, question, own) {
-            if comes_first(question) {
-                let to = lines::end_spent(out, start);
-                return Onward {
-                    step: Step { next: past, at: to },
-                    known,
-                };
-            }
-            let on = lines::push_nothing(out, at);
-            return Onward {
-                step: Step { next: past, at: on },
-                known,
-            };
-        }
-    }
-    let counted = answers::with_subject(
-        known,
-        charges::subject_of(question),
-        charges::method_of(question),
-    );
-    let answered = answers::tell_name(out, start, tables, strings, blob, layout, question, counted);
+    let answered = answers::tell_name(out, start, tables, strings, blob, layout, question, known);
     let told = answered.told;
     let after = answered.known;
     match told {

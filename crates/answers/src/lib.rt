@@ -19,15 +19,13 @@ ghost use Rattle.questions.specs.Questions.{numberCall, nameCall};
 ghost use Rattle.places.specs.Places.{Owns};
 ghost use Rattle.method_signatures.specs.Known.{KnowsSignature};
 ghost use Rattle.bases.specs.Candidates.{KnowsBases};
-ghost use Rattle.answers.specs.Known.{Fits, Knows};
+ghost use Rattle.answers.specs.Known.{Knows};
 
-// What is known; and by two numbers what was counted last and is within the ceiling of a listing.
+// What is known.
 pub struct Known {
     pub own: Own,
     pub signature: Signature,
     pub bases: Bases,
-    pub subject: usize,
-    pub method: u32,
 }
 
 // What the answer for a name came to, and what is known after it.
@@ -53,8 +51,6 @@ pub fn nothing_known() -> Known
         own,
         signature,
         bases,
-        subject: 0,
-        method: 0,
     }
 }
 
@@ -68,8 +64,6 @@ fn with_own(known: Known, own: Own) -> Known
         own,
         signature,
         bases,
-        subject: known.subject,
-        method: known.method,
     }
 }
 
@@ -83,8 +77,6 @@ fn with_signature(known: Known, own: Own, signature: Signature) -> Known
         own,
         signature,
         bases,
-        subject: known.subject,
-        method: known.method,
     }
 }
 
@@ -98,24 +90,6 @@ fn with_bases(known: Known, bases: Bases) -> Known
         own,
         signature,
         bases,
-        subject: known.subject,
-        method: known.method,
-    }
-}
-
-// The same with something else that is within the ceiling.
-pub fn with_subject(known: Known, subject: usize, method: u32) -> Known
-    ensures { λ r. ⌜ ((v : View) (heap : List ℕ) → Knows v heap known → Fits v subject method → Knows v heap r) ⌝ }
-{
-    let own = known.own;
-    let signature = known.signature;
-    let bases = known.bases;
-    Known {
-        own,
-        signature,
-        bases,
-        subject,
-        method,
     }
 }
 

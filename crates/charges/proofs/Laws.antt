@@ -1,18 +1,30 @@
 -- An answer within an allowance, by what was counted and what it came to. Assumes nothing.
 use mathlib.Core.Path.{_≡_, refl, sym, ap, subst, _∙_}
 use mathlib.Core.Bool.{true, false}
-use mathlib.Core.List.{List}
-use Prim.Native.Nat.{ℕ, _+_, _-_, _≤_}
+use mathlib.Core.List.{List, []}
+use Prim.Native.Nat.{ℕ, _+_, _-_, _*_, _/_, _≤_, _<_}
+use native.Mathlib.Nat.{le-trans, mul-le-mul-left, mul-le-mul-right, div-mul-le-self, le-div-iff-mul-le}
 use native.Mathlib.Omega.{arith}
 use borrow.Author.Tests.{lt-ltb, le-ltb}
 use lib.ListN.{length}
 use Rattle.buffers.specs.Texts.{Text}
-use Rattle.buffers.specs.Replies.{Answer, value, refusedBy, replySays, Named}
+use Rattle.buffers.specs.Replies.{Answer, refused, value, refusedBy, replySays, Named}
 use Rattle.buffers.specs.declared.Refusal.the-variants.{TooManySteps}
 use Rattle.buffers.specs.declared.Reply.{Reply}
 use Rattle.buffers.specs.declared.Reply.the-variants.{No}
-use Rattle.record.specs.Answers.{Numbered}
-use Rattle.record.specs.Allowance.{countOf, cost, charge, NumberedCharged, NamedCharged, ceiling, isOver}
+use Rattle.heaps.specs.Lookups.{Name}
+use Rattle.record.specs.View.{View}
+use Rattle.record.specs.Names.{env, classGenerics, baseSteps}
+use Rattle.record.specs.Methods.{leftAfter, methodSteps}
+use Rattle.record.specs.Answers.{_⟫_, theClass, theMethod, Numbered}
+use Rattle.record.specs.Answers.{NameCall, ClassName, GenericName, BaseName, MethodName, MethodGenericName, ReturnType, ParameterType, ParameterName}
+use Rattle.rows.specs.Columns as columns
+use Rattle.rows.specs.Layout.{Laid, Ascends, rowsAt, cell, viewIn}
+use Rattle.passing.specs.Passing.{SpecsWithin}
+use Rattle.bases.proofs.Within.{bases-within}
+use Rattle.method_signatures.proofs.Within.{methods-within}
+use Rattle.charges.specs.Within.{AllFit}
+use Rattle.record.specs.Allowance.{baseWork, methodWork, countOf, cost, charge, NumberedCharged, NamedCharged, ceiling, isOver}
 use Rattle.record.proofs.Allowance.{cost-replied, charge-spent, charge-fits}
 use Rattle.steps.specs.Counting.{Takes, left}
 use Rattle.steps.specs.declared.Steps.{Steps}
@@ -64,3 +76,55 @@ module _ (work : Answer ℕ) {r : Steps} (takes : Takes (countOf work) ceiling r
   pub beyond-it : r ≡ Spent → true ≡ isOver work
   unfolding isOver
   beyond-it e = sym (lt-ltb ceiling (countOf work) (takes-spent takes e))
+
+-- ---- Where every name is within it
+
+nothing-over : isOver (value 0) ≡ false
+unfolding isOver
+nothing-over = refl
+
+-- So many steps for a TypeSpec row: as many types, each with one step more, are within the ceiling.
+module _ (types : ℕ) (few : types ≤ ceiling) (some : 0 < types) where
+  pub one-at-least : 1 ≤ ceiling / types
+  one-at-least = le-div-iff-mul-le some .1 (omega (arith, few))
+
+  pub share-fits : (ceiling / types - 1 + 1) * types ≤ ceiling
+  share-fits =
+      let same : ceiling / types - 1 + 1 ≡ ceiling / types = omega (arith, one-at-least) in
+      rw same (div-mul-le-self ceiling types)
+
+counted-most : {A : Type 0} (a : Answer A) (n : ℕ) {most : ℕ} → n ≤ most → countOf (a ⟫ (λ _. value n)) ≤ most
+counted-most (refused w) n h = omega arith
+counted-most (value x) n h = h
+
+module _ {t l : List ℕ} (laid : Laid t l) (strings heap : List ℕ) (up : Ascends (cell t l columns.methodList) (rowsAt l columns.methodList))
+    {types most : ℕ} (fits : (most + 1) * types ≤ ceiling) (bytes : length heap ≤ types) (rows : rowsAt l columns.implClass + 1 ≤ types)
+    (specs : (g h : List Name) → SpecsWithin (env (viewIn t l strings heap) g h) most) where
+  abbrev v : View
+  v = viewIn t l strings heap
+
+  bases-fit : (c : ℕ) → isOver (baseWork v c) ≡ false
+  unfolding baseWork
+  bases-fit c =
+      let few = bases-within laid strings heap (c + 2) (omega arith) (specs (classGenerics v (c + 2 - 2)) []) in
+      let same : c + 2 - 2 ≡ c = omega arith in
+      let more : most ≤ most + 1 = omega arith in
+      let enough = le-trans (le-trans (mul-le-mul-left most rows) (mul-le-mul-right types more)) fits in
+      few-fit (baseWork v c) (counted-most (theClass v c) (baseSteps v c) (omega (arith, ap (baseSteps v) same, few, enough)))
+
+  method-fits : (c m : ℕ) → isOver (methodWork v c m) ≡ false
+  unfolding methodWork
+  method-fits c m =
+      let few = methods-within laid strings heap up (leftAfter v c + m) most specs in
+      let enough = le-trans (mul-le-mul-left (most + 1) bytes) fits in
+      few-fit (methodWork v c m) (counted-most (theMethod v c m) (methodSteps v (leftAfter v c + m)) (le-trans few enough))
+
+  pub all-fit : AllFit v
+  all-fit (ClassName c) = nothing-over
+  all-fit (GenericName c g) = nothing-over
+  all-fit (BaseName c b) = bases-fit c
+  all-fit (MethodName c m) = nothing-over
+  all-fit (MethodGenericName c m g) = nothing-over
+  all-fit (ReturnType c m) = method-fits c m
+  all-fit (ParameterType c m p) = method-fits c m
+  all-fit (ParameterName c m p) = method-fits c m

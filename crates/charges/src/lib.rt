@@ -3,24 +3,22 @@
 use buffers::Refusal;
 use buffers::Reply;
 use classes::ClassNumber;
-use numbers::wide;
 use places::Own;
 use questions::NameQuestion;
 use questions::NumberQuestion;
+use rows::columns;
 use steps::Charged;
 use steps::Steps;
 ghost use mathlib.Core.Path.{_≡_};
-ghost use mathlib.Core.Bool.{true, false};
+ghost use mathlib.Core.Bool.{true};
 ghost use mathlib.Core.List.{List};
-ghost use Prim.Native.Nat.{ℕ};
-ghost use Rattle.record.specs.View.{View};
+ghost use Prim.Native.Nat.{ℕ, _≤_};
 ghost use Rattle.record.specs.Allowance.{countOf, baseWork, methodWork, numberWork, nameWork, numberCharged, nameCharged, isOver};
 ghost use Rattle.record.specs.Allowance.{NumberedCharged, NamedCharged};
 ghost use Rattle.rows.specs.Layout.{Laid, viewIn};
 ghost use Rattle.places.specs.Places.{Owns};
 ghost use Rattle.questions.specs.Questions.{numberCall, nameCall};
-ghost use Rattle.answers.specs.Known.{Fits};
-ghost use Rattle.answers.specs.Known as known;
+ghost use Rattle.charges.specs.Within.{AllFit};
 ghost use Rattle.steps.specs.Counting.{Takes};
 
 // What a listing allows for each name.
@@ -168,40 +166,36 @@ pub fn charge_name(
     }
 }
 
-// What a question for a name counts, as two numbers: first whose base types or methods it is about, or 0 where it counts nothing.
-pub fn subject_of(question: NameQuestion) -> usize
-    ensures { λ r. ⌜ r ≡ known.subject (nameCall question) ⌝ }
+fn larger(a: usize, b: usize) -> u64
+    ensures { λ r. ⌜ (a ≤ r) × (b ≤ r) ⌝ }
 {
-    match question {
-        NameQuestion::BaseName(c, _) => 2 * (wide(c.0) + 1),
-        NameQuestion::ReturnType(c, _) => 2 * (wide(c.0) + 1) + 1,
-        NameQuestion::ParamType(c, _, _) => 2 * (wide(c.0) + 1) + 1,
-        NameQuestion::ParamName(c, _, _) => 2 * (wide(c.0) + 1) + 1,
-        NameQuestion::ClassName(_) => 0,
-        NameQuestion::GenericName(_, _) => 0,
-        NameQuestion::MethodName(_, _) => 0,
-        NameQuestion::MethodGenericName(_, _, _) => 0,
+    if a < b {
+        return b as u64;
     }
+    a as u64
 }
 
-// The second: which method.
-pub fn method_of(question: NameQuestion) -> u32
-    ensures { λ r. ⌜ r ≡ known.methodMeant (nameCall question) ⌝ }
+// Whether every name of a stream is surely within the ceiling. At most one class reads a method, whose signature has no more types than
+// the blob heap has bytes; and a class has no more base types than InterfaceImpl has rows, and the extended one. So it is where each of as
+// many types may take its own step and all those of a TypeSpec row.
+pub fn all_within(tables: &[u8], blob: &[u8], layout: &[u32]) -> bool
+    requires { ⌜ Laid (now tables) (now layout) ⌝ }
+    ensures { λ r. let v = viewIn (now (tables .entry)) (now (layout .entry)) in
+        ⌜ ((strings : List ℕ) → r ≡ true → AllFit (v strings (now (blob .entry)))) ⌝ }
 {
-    match question {
-        NameQuestion::ReturnType(_, m) => m,
-        NameQuestion::ParamType(_, m, _) => m,
-        NameQuestion::ParamName(_, m, _) => m,
-        NameQuestion::BaseName(_, _) => 0,
-        NameQuestion::ClassName(_) => 0,
-        NameQuestion::GenericName(_, _) => 0,
-        NameQuestion::MethodName(_, _) => 0,
-        NameQuestion::MethodGenericName(_, _, _) => 0,
+    if !rows::is_marked(layout, columns::METHOD_LIST) {
+        return false;
     }
+    let rows = rows::count_rows(layout, columns::IMPL_CLASS);
+    let types = larger(blob.len(), rows + 1);
+    if CEILING < types {
+        return false;
+    }
+    passing::specs_suffice(tables, blob, layout, CEILING / types - 1)
 }
 
 // Whether all base types of a class count more than a listing allows.
-fn bases_over(
+pub fn bases_over(
     tables: &[u8],
     strings: &[u8],
     blob: &[u8],
@@ -220,7 +214,7 @@ fn bases_over(
 
 // The same of a method's signature, by what is known of its class's methods. Where its bytes show that it fits, its types are not passed
 // over.
-fn method_over(
+pub fn method_over(
     tables: &[u8],
     strings: &[u8],
     blob: &[u8],
@@ -242,59 +236,5 @@ fn method_over(
     match method_answers::pass_readings_of(tables, strings, blob, layout, class, row, CEILING) {
         Steps::Left(_) => false,
         Steps::Spent => true,
-    }
-}
-
-// Whether a question counts what the two numbers say.
-fn is_about(question: NameQuestion, subject: usize, method: u32) -> bool
-    ensures { λ r. ⌜ (r ≡ true → (known.subject (nameCall question) ≡ subject) × (known.methodMeant (nameCall question) ≡ method)) ⌝ }
-{
-    if subject_of(question) == subject {
-        if method_of(question) == method {
-            return true;
-        }
-    }
-    false
-}
-
-// Whether a question for a name is known to be within the ceiling: it counts nothing, or what the two numbers say.
-pub fn is_within(question: NameQuestion, subject: usize, method: u32) -> bool
-    ensures { λ r. ⌜ ((v : View) → Fits v subject method → r ≡ true → isOver (nameWork (nameCall question) v) ≡ false) ⌝ }
-{
-    match question {
-        NameQuestion::BaseName(_, _) => is_about(question, subject, method),
-        NameQuestion::ReturnType(_, _) => is_about(question, subject, method),
-        NameQuestion::ParamType(_, _, _) => is_about(question, subject, method),
-        NameQuestion::ParamName(_, _, _) => is_about(question, subject, method),
-        NameQuestion::ClassName(_) => true,
-        NameQuestion::GenericName(_, _) => true,
-        NameQuestion::MethodName(_, _) => true,
-        NameQuestion::MethodGenericName(_, _, _) => true,
-    }
-}
-
-// Whether a question for a name is beyond the ceiling, by what is known of a class's methods.
-pub fn is_over(
-    tables: &[u8],
-    strings: &[u8],
-    blob: &[u8],
-    layout: &[u32],
-    question: NameQuestion,
-    own: Own,
-) -> bool
-    requires { ⌜ Laid (now tables) (now layout) ⌝ }
-    requires { ⌜ Owns (viewIn (now tables) (now layout) (now strings) (now blob)) own ⌝ }
-    ensures { λ r. let v = viewIn (now (tables .entry)) (now (layout .entry)) (now (strings .entry)) (now (blob .entry)) in
-        ⌜ r ≡ isOver (nameWork (nameCall question) v) ⌝ }
-{
-    match question {
-        NameQuestion::BaseName(c, _) => bases_over(tables, strings, blob, layout, c),
-        NameQuestion::ReturnType(c, m) => method_over(tables, strings, blob, layout, c, m, own),
-        NameQuestion::ParamType(c, m, _) => method_over(tables, strings, blob, layout, c, m, own),
-        NameQuestion::ParamName(c, m, _) => method_over(tables, strings, blob, layout, c, m, own),
-        NameQuestion::ClassName(_) => false,
-        NameQuestion::GenericName(_, _) => false,
-        NameQuestion::MethodName(_, _) => false,
-        NameQuestion::MethodGenericName(_, _, _) => false,
     }
 }

@@ -3,15 +3,17 @@
 -- 0. No count is asked for: items are asked for in order until there is none. Beyond the ceiling a class goes on to its methods, and a method
 -- to the next one; so it is at every cursor, whether it was handed out or made up.
 use mathlib.Core.Path.{_≡_}
-use mathlib.Core.Bool.{cond}
+use mathlib.Core.Bool.{Bool, true, false, cond}
 use mathlib.Core.List.{List, [], _++_}
 use Prim.Native.Nat.{ℕ, _+_, min}
+use lib.Dec.{eqb}
 use Rattle.buffers.specs.Texts.{Text, q}
 use Rattle.buffers.specs.Writes.{Wrote}
 use Rattle.buffers.specs.Replies.{Answer, refused, value}
 use Rattle.record.specs.View.{View}
 use Rattle.record.specs.Answers.{walkAnswer, classCount, classFlags, className, genericName, methodName, methodFlags, methodGenericName}
 use Rattle.record.specs.Answers.{BaseName, ReturnType, ParameterType, ParameterName}
+use Rattle.record.specs.Allowance.{baseWork, methodWork, isOver}
 use Rattle.lines.specs.Lines.{numberLine, refusedLine, answerLine, nameLine, goesOn}
 use Rattle.lines.specs.Ceiling.{listed}
 use Rattle.lines.specs.declared.Place.{Place}
@@ -78,6 +80,41 @@ lineAt v c = placeLine v (c .place) (c .class .0) (c .method) (c .i)
 
 unfoldable pub nextAt : View → Cursor → Cursor
 nextAt v c = placeNext v (c .place) (c .class .0) (c .method) (c .i)
+
+-- What the line at a place counts of the ceiling, and whether that is beyond it.
+abbrev pub placeWork : View → Place → ℕ → ℕ → Answer ℕ
+placeWork v Stop c m = value 0
+placeWork v Classes c m = value 0
+placeWork v Class c m = value 0
+placeWork v Flags c m = value 0
+placeWork v Generic c m = value 0
+placeWork v Base c m = baseWork v c
+placeWork v Method c m = value 0
+placeWork v MethodFlags c m = value 0
+placeWork v MethodGeneric c m = value 0
+placeWork v Returns c m = methodWork v c m
+placeWork v ParamType c m = methodWork v c m
+placeWork v ParamName c m = methodWork v c m
+placeWork v Done c m = value 0
+
+unfoldable pub isOverAt : View → Cursor → Bool
+isOverAt v c = isOver (placeWork v (c .place) (c .class .0) (c .method))
+
+-- Whether the line at a place counts something that no line before it does: a class's first base type, and a method's return type.
+abbrev pub countsAnew : Place → ℕ → Bool
+countsAnew Stop i = false
+countsAnew Classes i = false
+countsAnew Class i = false
+countsAnew Flags i = false
+countsAnew Generic i = false
+countsAnew Base i = eqb i 0
+countsAnew Method i = false
+countsAnew MethodFlags i = false
+countsAnew MethodGeneric i = false
+countsAnew Returns i = true
+countsAnew ParamType i = false
+countsAnew ParamName i = false
+countsAnew Done i = false
 
 -- The line at a cursor shows the number that is an answer, behind a key, and goes on there.
 pub record ShowsNumber (v : View) (c : Cursor) (key : Text) (a : Answer ℕ) (to : Cursor) : Type 0 where

@@ -10,6 +10,7 @@ use header::Options;
 use lines::Cursor;
 use rows::columns;
 ghost use mathlib.Core.Path.{_≡_};
+ghost use mathlib.Core.Bool.{true};
 ghost use mathlib.Core.List.{List};
 ghost use Prim.Native.Nat.{ℕ, _≤_};
 ghost use lib.ListN.{length};
@@ -17,6 +18,7 @@ ghost use Rattle.record.specs.View.{view};
 ghost use Rattle.rows.specs.Columns as columns;
 ghost use Rattle.rows.specs.Layout.{Laid, viewIn};
 ghost use Rattle.answers.specs.Known.{Knows};
+ghost use Rattle.charges.specs.Within.{AllFit};
 
 // Words for the layout, and for the rows by key of every input that the program takes, and bytes of a piece of the listing; and both for
 // one whose tables have at most so many bytes, which costs fewer zeros. A piece that is shorter than the longest line, 12,298 bytes, could
@@ -63,6 +65,7 @@ fn write_piece(
     blob: &[u8],
     options: Options,
     layout: &[u32],
+    all: bool,
     from: Cursor,
     known: Known,
     space: &mut [u8],
@@ -70,10 +73,21 @@ fn write_piece(
     requires { ⌜ Laid (now tables) (now layout) ⌝ }
     requires { ⌜ ((s b : List ℕ) → viewIn (now tables) (now layout) s b ≡ view options (now tables) s b) ⌝ }
     requires { ⌜ Knows (viewIn (now tables) (now layout) (now strings) (now blob)) (now blob) known ⌝ }
+    requires { ⌜ (all ≡ true → AllFit (view options (now tables) (now strings) (now blob))) ⌝ }
     ensures { λ r. let v = viewIn (now (tables .entry)) (now (layout .entry)) (now (strings .entry)) (now (blob .entry)) in
         ⌜ Knows v (now (blob .entry)) (r .known) ⌝ }
 {
-    let on = listing_steps::fill_opened(tables, strings, blob, options, layout, from, known, space);
+    let on = listing_steps::fill_opened(
+        tables,
+        strings,
+        blob,
+        options,
+        layout,
+        all,
+        from,
+        known,
+        space,
+    );
     let step = on.step;
     let next = step.next;
     let after = on.known;
@@ -85,7 +99,8 @@ fn write_piece(
     }
 }
 
-// Every piece, and whether all were written. No listing has as many as the loop has turns.
+// Every piece, and whether all were written; what is beyond the ceiling is looked for only where something can be. No listing has as many
+// as the loop has turns.
 fn write_pieces(
     tables: &[u8],
     strings: &[u8],
@@ -97,6 +112,7 @@ fn write_pieces(
     requires { ⌜ Laid (now tables) (now layout) ⌝ }
     requires { ⌜ ((s b : List ℕ) → viewIn (now tables) (now layout) s b ≡ view options (now tables) s b) ⌝ }
 {
+    let all = charges::all_within(tables, blob, layout);
     let mut cursor = lines::first_cursor();
     let mut known = answers::nothing_known();
     let mut turns: u64 = 0xFFFF_FFFF_FFFF_FFFF;
@@ -104,7 +120,17 @@ fn write_pieces(
         if listing_steps::is_done(cursor) {
             return true;
         }
-        let written = write_piece(tables, strings, blob, options, layout, cursor, known, space);
+        let written = write_piece(
+            tables,
+            strings,
+            blob,
+            options,
+            layout,
+            all,
+            cursor,
+            known,
+            space,
+        );
         if !written.whole {
             return false;
         }

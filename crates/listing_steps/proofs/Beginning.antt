@@ -1,6 +1,6 @@
 -- From a line that has begun to a step of the listing. Assumes nothing.
-use mathlib.Core.Path.{_≡_, subst}
-use mathlib.Core.Bool.{cond}
+use mathlib.Core.Path.{_≡_, sym, _∙_, subst}
+use mathlib.Core.Bool.{false, cond}
 use mathlib.Core.List.{List}
 use Prim.Native.Nat.{ℕ, _+_, _≤_}
 use native.Mathlib.Omega.{arith}
@@ -10,12 +10,13 @@ use Rattle.buffers.specs.Writes.{Wrote, Kept}
 use Rattle.buffers.proofs.Writing.{wrote-anew}
 use Rattle.record.specs.View.{View}
 use Rattle.record.specs.Answers.{numberAnswer}
+use Rattle.record.specs.Allowance.{nameWork, isOver}
 use Rattle.questions.specs.Questions.{numberCall, nameCall}
 use Rattle.questions.specs.declared.NumberQuestion.{NumberQuestion}
 use Rattle.questions.specs.declared.NameQuestion.{NameQuestion}
 use Rattle.lines.specs.Lines.{nameRoom, lineRoom, answerLine, nameLine, goesOn}
 use Rattle.lines.specs.Ceiling.{listed}
-use Rattle.lines.specs.Cursors.{cursor, lineAt, nextAt, Went, Stepped}
+use Rattle.lines.specs.Cursors.{cursor, lineAt, nextAt, isOverAt, Went, Stepped}
 use Rattle.lines.specs.declared.Place.{Place}
 use Rattle.lines.specs.declared.Place.the-variants as place
 use Rattle.lines.specs.declared.Cursor.{Cursor}
@@ -65,7 +66,7 @@ module _ (c : Cursor) {l : Line} {o o′ o″ : List ℕ} {at : ℕ} {s : Step} 
         → ((o : List ℕ) (key : Text) → Wrote o at key o′ start
         → Went (nameLine key (listed (nameCall question) v)) (cond (goesOn (listed (nameCall question) v)) more past) o at o″ s)
         → Stepped v c o at o″ s
-    named v (name key l w h) f = name-steps h (f _ key w)
+    named v (name key l w h n) f = name-steps h (f _ key w)
 
     pub name-next : {v w : View} → v ≡ w → l ≡ Name start question more past
         → ((o : List ℕ) (key : Text) → Wrote o at key o′ start
@@ -76,8 +77,16 @@ module _ (c : Cursor) {l : Line} {o o′ o″ : List ℕ} {at : ℕ} {s : Step} 
 -- There is room for a name behind its key.
 module _ {c : Cursor} {o o′ : List ℕ} {at start : ℕ} {question : NameQuestion} {more past : Cursor} where
   room-behind : {v : View} → Begun v c o at o′ (Name start question more past) → at + lineRoom ≤ length o → start + nameRoom ≤ length o′
-  room-behind (name key l w h) room = omega (arith, l, w .place, w .keeps .long)
+  room-behind (name key l w h n) room = omega (arith, l, w .place, w .keeps .long)
 
   pub name-room : {v w : View} → v ≡ w → {l : Line} → ((v : View) → Begun v c o at o′ l) → l ≡ Name start question more past
       → at + lineRoom ≤ length o → start + nameRoom ≤ length o′
   name-room {v} same b e room = room-behind (subst (Begun v c o at o′) e (b v)) room
+
+  -- It is within the ceiling where the line at its cursor is.
+  within-so : {v : View} → Begun v c o at o′ (Name start question more past) → isOverAt v c ≡ false → isOver (nameWork (nameCall question) v) ≡ false
+  within-so (name key l w h n) within = n ∙ within
+
+  pub name-within : {v w : View} → v ≡ w → {l : Line} → ((v : View) → Begun v c o at o′ l) → l ≡ Name start question more past
+      → isOverAt w c ≡ false → isOver (nameWork (nameCall question) v) ≡ false
+  name-within {v} same b e within = within-so (subst (Begun v c o at o′) e (b v)) (subst (λ (x : View). isOverAt x c ≡ false) (sym same) within)

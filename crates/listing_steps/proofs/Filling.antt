@@ -26,8 +26,9 @@ use Rattle.lines.specs.Lines.{lineRoom, refusedLine}
 use Rattle.lines.specs.Cursors.{done, lineAt, nextAt, Went, Stepped}
 use Rattle.lines.specs.declared.Cursor.{Cursor}
 use Rattle.lines.specs.declared.Step.{Step}
+use Rattle.answers.specs.declared.Known.{Known}
 use Rattle.listing_steps.specs.declared.Reached.{Reached}
-use Rattle.listing_steps.specs.Filling.{isDone, Piece, pieceFrom, mostSteps, pieceOf, inputPiece, Pieced, Going, Reaches, Filled}
+use Rattle.listing_steps.specs.Filling.{isDone, Piece, pieceFrom, mostSteps, pieceOf, inputPiece, Pieced, Going, Advances, Filled}
 
 -- One step of a piece.
 either-same : (b : Bool) (p : Piece) → cond b p p ≡ p
@@ -112,16 +113,16 @@ module _ {v : View} {p : Piece} {b b′ : List ℕ} {c : Cursor} {at steps : ℕ
         }
 
 -- One step that was taken in a space of its own: its line was made there, or is longer than that space, and so than what is left.
-nothing-left : (left at n : ℕ) → (0 < left → n < at + n) → (0 < at → left < 1) → left ≤ 0
-nothing-left zero at n f g = omega arith
-nothing-left (suc left) at n f g = absurd (omega (arith, g (omega (arith, f (omega arith)))))
-
-module _ {v : View} {c : Cursor} {s s′ : List ℕ} {r : Reached} (one : Reaches v c 1 s s′ r) (long : length s ≡ lineRoom) where
+module _ {v : View} {c : Cursor} {k : Known} {sure : Bool} {s s′ : List ℕ} {r : Reached}
+    (one : Advances v (record { step = record { next = c; at = 0 }; known = k; within = sure; left = 1 }) s s′ r) (long : lineRoom ≤ length s) where
   abbrev now-at : ℕ
   now-at = r .step .at
 
   pieced : Pieced (pieceFrom v (length s) 1 [] c) s s′ (record { next = r .step .next; at = r .step .at })
-  pieced = going-out (one .going) (nothing-left (r .left) now-at lineRoom (λ h. omega (arith, long, one .room h)) (one .fewer))
+  pieced = going-out (one .going _ s (going-start v s c 1)) (omega (arith, one .fewer (omega arith) (omega (arith, long))))
+
+  pub made-long : length s′ ≡ length s
+  made-long = one .going _ s (going-start v s c 1) .wrote .keeps .long
 
   made : isDone (c .place) ≡ false → length (lineAt v c) ≤ length s → Pieced (record { text = lineAt v c; next = nextAt v c }) s s′ (r .step)
   made undone h =

@@ -1,2 +1,3 @@
 mod Beginning
 pub mod Filling
+pub mod Over

@@ -12,7 +12,7 @@ use Rattle.bundle.specs.Input.{Inputs, bundleOf, bundleSays}
 use Rattle.header.specs.Stream.{base}
 use Rattle.record.specs.View.{View, view}
 use Rattle.lines.specs.Lines.{lineRoom, refusedLine}
-use Rattle.lines.specs.Cursors.{done, lineAt, nextAt}
+use Rattle.lines.specs.Cursors.{done, lineAt, nextAt, isOverAt}
 use Rattle.lines.specs.declared.Place.{Place}
 use Rattle.lines.specs.declared.Place.the-variants.{Stop, Classes, Class, Flags, Generic, Base, Method, MethodFlags, MethodGeneric, Returns, ParamType, ParamName, Done}
 use Rattle.lines.specs.declared.Cursor.{Cursor}
@@ -74,11 +74,18 @@ pub record Going (v : View) (p : Piece) (b b′ : List ℕ) (c : Cursor) (at ste
   pub fits : length text ≤ length b
   pub rest : pieceFrom v (length b) steps text c ≡ p
 
+-- Steps were taken from where others had come: whatever piece was going on there goes on; there are fewer to take, if there was room for any
+-- name as it stands; and what is told of the line there is so.
+pub record Advances (v : View) (from : Reached) (b b′ : List ℕ) (r : Reached) : Type 0 where
+  pub going : (p : Piece) (o : List ℕ) → Going v p o b (from .step .next) (from .step .at) (from .left) → Going v p o b′ (r .step .next) (r .step .at) (r .left)
+  pub fewer : 0 < from .left → from .step .at + lineRoom ≤ length b → r .left < from .left
+  pub within : r .within ≡ true → isOverAt v (r .step .next) ≡ false
+
 -- Some of the steps of a piece were taken, as long as there was room for any name as it stands.
-pub record Reaches (v : View) (c : Cursor) (steps : ℕ) (b b′ : List ℕ) (r : Reached) : Type 0 where
-  pub going : Going v (pieceFrom v (length b) steps [] c) b b′ (r .step .next) (r .step .at) (r .left)
+pub record Reaches (v : View) (c : Cursor) (b b′ : List ℕ) (r : Reached) : Type 0 where
+  pub going : Going v (pieceOf v (length b) c) b b′ (r .step .next) (r .step .at) (r .left)
   pub room : 0 < r .left → length b < r .step .at + lineRoom
-  pub fewer : 0 < r .step .at → r .left < steps
+  pub within : r .within ≡ true → isOverAt v (r .step .next) ≡ false
 
 -- What a call for a piece does with a lent buffer: it holds the text and then zeros, or zeros alone where the text does not fit; and the
 -- bytes of the text are told, or one more than the buffer has.

@@ -68,6 +68,7 @@ fn fill_held(
     ensures { λ r. let v = view options (now (tables .entry)) (now (strings .entry)) (now (blob .entry)) in
         ⌜ Pieced (pieceOf v (length (now (out .entry))) from) (now (out .entry)) (now (out .exit)) r ⌝ }
 {
+    let all = charges::all_within(tables, blob, layout);
     let known = answers::nothing_known();
     if work.len() < columns::SIZE {
         let on = listing_steps::fill_opened(
@@ -76,6 +77,7 @@ fn fill_held(
             blob,
             options,
             layout,
+            all,
             from,
             known,
             out,
@@ -83,7 +85,17 @@ fn fill_held(
         return on.step;
     }
     holding::hold(work, tables, layout);
-    let on = listing_steps::fill_opened(tables, strings, blob, options, work, from, known, out);
+    let on = listing_steps::fill_opened(
+        tables,
+        strings,
+        blob,
+        options,
+        work,
+        all,
+        from,
+        known,
+        out,
+    );
     on.step
 }
 

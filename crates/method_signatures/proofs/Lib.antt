@@ -2,3 +2,4 @@ pub mod Laws
 pub mod Values
 pub mod Known
 pub mod Steps
+pub mod Within

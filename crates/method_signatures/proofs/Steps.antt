@@ -84,7 +84,7 @@ module _ (v : View) (m steps : ℕ) where
 
 -- ---- Where at most one class reads it
 
-at-most : (f : ℕ → ℕ) (l : List ℕ) (n : ℕ) → length l ≤ 1 → ((c : ℕ) → f c ≤ n) → total (map f l) ≤ n
+pub at-most : (f : ℕ → ℕ) (l : List ℕ) (n : ℕ) → length l ≤ 1 → ((c : ℕ) → f c ≤ n) → total (map f l) ≤ n
 at-most f [] n h each = omega arith
 at-most f (c ∷ []) n h each = omega (arith, each c)
 at-most f (c ∷ d ∷ l) n h each = absurd (omega arith)

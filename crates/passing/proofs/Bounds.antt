@@ -1,11 +1,12 @@
--- No byte of a signature is read twice as a type byte, unless it begins the name of a TypeSpec row: so its types have at most as many as it
--- has bytes. Assumes nothing.
+-- How many type bytes a signature has at most: each of its bytes is read as one once, and may begin the name of a TypeSpec row, whose types
+-- stand elsewhere. Where no byte begins such a name there are at most as many as bytes. Assumes nothing.
 use mathlib.Core.Path.{_≡_, refl, sym, ap, subst, _∙_}
 use mathlib.Core.Bool.{Bool, true, false, cond}
 use mathlib.Core.List.{List, [], _∷_, _++_}
 use mathlib.Core.Option.{Option, none, some, Option·some-injective}
-use Prim.Native.Nat.{ℕ, zero, suc, _+_, _-_, _/_, _%_, _≤_, _<_}
+use Prim.Native.Nat.{ℕ, zero, suc, _+_, _-_, _*_, _/_, _%_, _≤_, _<_}
 use native.Mathlib.Decide.{decLe}
+use native.Mathlib.Nat.{mul-add, mul-one, mul-le-mul-left}
 use native.Mathlib.Omega.{arith}
 use lib.Dec.{ltb, eqb}
 use lib.ListN.{length, getD}
@@ -21,11 +22,16 @@ use Rattle.record.specs.Types.{Env, look, typeFullName, counted, methodStart, a
 use Rattle.record.specs.Names.{levels}
 use Rattle.record.specs.Methods.{signature}
 use Rattle.record.proofs.Onward.{methodStart-onward, parameters-onward, type-onward}
-use Rattle.passing.specs.Passing.{NamesSpec, Suffices}
+use Rattle.passing.specs.Passing.{NamesSpec, Suffices, SpecsWithin}
 use Rattle.passing.proofs.Laws.{When, passes-failed}
 use Rattle.passing.proofs.Forms.{type-past}
 use Rattle.passing.proofs.Shapes.{Free, byte-free, uint-free, sint-free}
 use Rattle.passing.proofs.Methods.{signature-like}
+
+pointer-onward : (e : Env) → Onward (fnPtr (type e levels))
+unfolding fnPtr
+pointer-onward e =
+    bind-onward methodStart-onward (λ n. bind-onward (type-onward e levels) (λ t. bind-onward (parameters-onward n 0 (type-onward e levels)) (λ ts. give-onward _)))
 
 -- A name that no TypeSpec row has takes no step.
 name-free : (e : Env) (d : Reader Text) (i : ℕ) → (i % 4 ≡ 2 → ⊥) → typeFullName e d i .steps ≡ 0
@@ -35,15 +41,31 @@ name-free e d i other =
     (λ _. pick-eq (λ (r : Res Text). r .steps ≡ 0) (i % 4) 1 (λ _. refl)
     (λ _. pick-eq (λ (r : Res Text). r .steps ≡ 0) (i % 4) 2 (λ x. absurd (other x)) (λ _. refl)))
 
-module _ (s : List ℕ) where
-  -- As many type bytes at most as bytes, from a position; and from every one.
+-- A byte pays for its own step, and for as many as the row may take that it names.
+unfoldable price : ℕ → ℕ → ℕ
+price most n = (most + 1) * n
+
+price-next : (most n : ℕ) → price most (n + 1) ≡ price most n + (most + 1)
+unfolding price
+price-next most n = mul-add (most + 1) n 1 ∙ ap (λ (x : ℕ). (most + 1) * n + x) (mul-one (most + 1))
+
+price-up : (most : ℕ) {m n : ℕ} → m ≤ n → price most m ≤ price most n
+unfolding price
+price-up most h = mul-le-mul-left (most + 1) h
+
+price-one : (n : ℕ) → price 0 n ≡ n
+unfolding price
+price-one n = omega arith
+
+module _ (s : List ℕ) (most : ℕ) where
+  -- What is read from a position has no more type bytes than its bytes pay for; and from every position.
   abbrev Spends : {A : Type 0} → Res A → ℕ → Type 0
-  Spends r at = r .steps + at ≤ r .next
+  Spends r at = r .steps + price most at ≤ price most (r .next)
 
   record Frugal {A : Type 0} (p : Reader A) : Type 0 where
     spends : (at : ℕ) → Spends (p s at) at
 
-  stays : (at : ℕ) → 0 + at ≤ at
+  stays : (at : ℕ) → 0 + price most at ≤ price most at
   stays at = omega arith
 
   give-frugal : {A : Type 0} (a : A) → Frugal (give a)
@@ -63,9 +85,9 @@ module _ (s : List ℕ) where
   cond-frugal false f g = g
 
   free-frugal : {A : Type 0} (p : Reader A) → Free p → Onward p → Frugal p
-  free-frugal p f o = record { spends = λ at. omega (arith, f s at, o .ahead s at .from) }
+  free-frugal p f o = record { spends = λ at. omega (arith, f s at, price-up most (o .ahead s at .from)) }
 
-  chain-spends : {A B : Type 0} (at : ℕ) (o : Option A) (next steps : ℕ) (k : A → Reader B) → steps + at ≤ next → ((a : A) → Frugal (k a))
+  chain-spends : {A B : Type 0} (at : ℕ) (o : Option A) (next steps : ℕ) (k : A → Reader B) → steps + price most at ≤ price most next → ((a : A) → Frugal (k a))
       → Spends (chain o next steps (λ a n. k a s n)) at
   chain-spends at none next steps k h g = h
   chain-spends at (some a) next steps k h g = omega (arith, h, g a .spends next)
@@ -133,75 +155,94 @@ module _ (s : List ℕ) where
   unfolding generic
   generic-frugal name = bind-frugal uint-frugal (λ i. known-frugal (name i))
 
+  -- Behind a type byte, which has paid for a row.
+  abbrev Behind : Res Text → ℕ → Type 0
+  Behind r at = r .steps + price most at ≤ price most (r .next) + most
+
+  behind : {p : Reader Text} → Frugal p → (at : ℕ) → Behind (p s at) at
+  behind f at = omega (arith, f .spends at)
+
   -- Every row of a table, where the number is the row's.
   data Rows (b at : ℕ) : List (ℕ × Reader Text) → Type 0 where
     none-left : Rows b at []
-    and-row : {k : ℕ} {p : Reader Text} {ps : List (ℕ × Reader Text)} → (b ≡ k → Spends (p s at) at) → Rows b at ps → Rows b at ((k, p) ∷ ps)
+    and-row : {k : ℕ} {p : Reader Text} {ps : List (ℕ × Reader Text)} → (b ≡ k → Behind (p s at) at) → Rows b at ps → Rows b at ((k, p) ∷ ps)
 
-  look-spends : (b at : ℕ) {ps : List (ℕ × Reader Text)} (d : Reader Text) → Rows b at ps → Spends (d s at) at → Spends (look b ps d s at) at
+  look-behind : (b at : ℕ) {ps : List (ℕ × Reader Text)} (d : Reader Text) → Rows b at ps → Behind (d s at) at → Behind (look b ps d s at) at
   unfolding look
-  look-spends b at d none-left g = g
-  look-spends b at d (and-row {k = k} f r) g = pick-eq (λ (p : Reader Text). Spends (p s at) at) b k f (λ _. look-spends b at d r g)
+  look-behind b at d none-left g = g
+  look-behind b at d (and-row {k = k} f r) g = pick-eq (λ (p : Reader Text). Behind (p s at) at) b k f (λ _. look-behind b at d r g)
 
-  module _ (nowhere : (at : ℕ) → at < length s → NamesSpec s at → ⊥) (e : Env) where
-    module _ {d : Reader Text} (hd : Frugal d) where
-      class-spends : (at : ℕ) → at < length s → 0x11 ≤ getD s at 0 → getD s at 0 < 0x13 → Spends (classType e d s (at + 1)) (at + 1)
+  module _ (e : Env) where
+    -- Whatever row a type byte names, by a reader of the types that stand there, so many steps suffice for it.
+    abbrev Names : Reader Text → Type 0
+    Names d = (at i : ℕ) → at < length s → 0x11 ≤ getD s at 0 → getD s at 0 < 0x13 → uint s (at + 1) .got ≡ some i → typeFullName e d i .steps ≤ most
+
+    module _ {d : Reader Text} (hd : Frugal d) (names : Names d) where
+      class-behind : (at : ℕ) → at < length s → 0x11 ≤ getD s at 0 → getD s at 0 < 0x13 → Behind (classType e d s (at + 1)) (at + 1)
       unfolding classType
-      class-spends at lt lo hi = go (uint s (at + 1) .got) refl
+      class-behind at lt lo hi = go (uint s (at + 1) .got) refl
         where
           go : (o : Option ℕ) → uint s (at + 1) .got ≡ o
-              → Spends (chain o (uint s (at + 1) .next) (uint s (at + 1) .steps) (λ i next. record { got = typeFullName e d i .got; next = next; steps = typeFullName e d i .steps })) (at + 1)
-          go none x = uint-frugal .spends (at + 1)
-          go (some i) x =
-              omega (arith, uint-frugal .spends (at + 1), name-free e d i (λ y. nowhere at lt (record { class = (lo, hi); index = i; read = x; spec = y })))
+              → Behind (chain o (uint s (at + 1) .next) (uint s (at + 1) .steps) (λ i next. record { got = typeFullName e d i .got; next = next; steps = typeFullName e d i .steps })) (at + 1)
+          go none x = omega (arith, uint-frugal .spends (at + 1))
+          go (some i) x = omega (arith, uint-frugal .spends (at + 1), names at i lt lo hi x)
 
-      form-spends : {p : Reader Text} → Frugal p → (at : ℕ) → at < length s → Spends (form e d p (getD s at 0) s (at + 1)) (at + 1)
+      form-behind : {p : Reader Text} → Frugal p → (at : ℕ) → at < length s → Behind (form e d p (getD s at 0) s (at + 1)) (at + 1)
       unfolding form
-      form-spends hp at lt = look-spends (getD s at 0) (at + 1) _
-          (and-row (λ _. around-frugal hd _ _ .spends (at + 1)) (and-row (λ _. around-frugal hd _ _ .spends (at + 1))
-          (and-row (λ x. class-spends at lt (omega (arith, x)) (omega (arith, x))) (and-row (λ x. class-spends at lt (omega (arith, x)) (omega (arith, x)))
-          (and-row (λ _. generic-frugal (e .generics) .spends (at + 1)) (and-row (λ _. array-frugal hd .spends (at + 1))
-          (and-row (λ _. instance-frugal hp .spends (at + 1)) (and-row (λ _. pointer-frugal hd .spends (at + 1))
-          (and-row (λ _. around-frugal hp _ _ .spends (at + 1)) (and-row (λ _. generic-frugal (e .mgenerics) .spends (at + 1))
-          (and-row (λ _. modified-frugal hp .spends (at + 1)) (and-row (λ _. modified-frugal hp .spends (at + 1)) none-left))))))))))))
-          (stays (at + 1))
+      form-behind hp at lt = look-behind (getD s at 0) (at + 1) _
+          (and-row (λ _. behind (around-frugal hd _ _) (at + 1)) (and-row (λ _. behind (around-frugal hd _ _) (at + 1))
+          (and-row (λ x. class-behind at lt (omega (arith, x)) (omega (arith, x))) (and-row (λ x. class-behind at lt (omega (arith, x)) (omega (arith, x)))
+          (and-row (λ _. behind (generic-frugal (e .generics)) (at + 1)) (and-row (λ _. behind (array-frugal hd) (at + 1))
+          (and-row (λ _. behind (instance-frugal hp) (at + 1)) (and-row (λ _. behind (pointer-frugal hd) (at + 1))
+          (and-row (λ _. behind (around-frugal hp _ _) (at + 1)) (and-row (λ _. behind (generic-frugal (e .mgenerics)) (at + 1))
+          (and-row (λ _. behind (modified-frugal hp) (at + 1)) (and-row (λ _. behind (modified-frugal hp) (at + 1)) none-left))))))))))))
+          (behind fail-frugal (at + 1))
 
       within-frugal : (n : ℕ) → Frugal (within e d n)
       unfolding within
       within-frugal zero = fail-frugal
       within-frugal (suc n) = record {
         spends = λ at. pick-lt (λ (r : Res ℕ). Spends (chain (r .got) (r .next) (r .steps) (λ b next. form e d (within e d n) b s next)) at) at (length s)
-            (λ lt. omega (arith, form-spends (within-frugal n) at lt)) (λ _. stays at);
+            (λ lt. omega (arith, form-behind (within-frugal n) at lt, price-next most at)) (λ _. stays at);
       }
 
-    type-frugal : (l : ℕ) → Frugal (type e l)
-    unfolding type
-    type-frugal zero = record {
-      spends = λ at. pick-lt (λ (r : Res ℕ). Spends (chain (r .got) (r .next) (r .steps) (λ b next. fail {A = Text} s next)) at) at (length s)
-          (λ lt. omega arith) (λ _. stays at);
-    }
-    type-frugal (suc l) = record { spends = λ at. within-frugal (type-frugal l) (length s - at) .spends at }
+    module _ (names : (l : ℕ) → Names (type e l)) where
+      type-frugal : (l : ℕ) → Frugal (type e l)
+      unfolding type
+      type-frugal zero = record {
+        spends = λ at. pick-lt (λ (r : Res ℕ). Spends (chain (r .got) (r .next) (r .steps) (λ b next. fail {A = Text} s next)) at) at (length s)
+            (λ lt. omega (arith, price-next most at)) (λ _. stays at);
+      }
+      type-frugal (suc l) = record { spends = λ at. within-frugal (type-frugal l) (names l) (length s - at) .spends at }
 
-    type-within : (l at : ℕ) → type e l s at .steps ≤ length s
-    type-within l at = go (decLe at (length s))
-      where
-        go : Dec (at ≤ length s) → type e l s at .steps ≤ length s
-        go (yes h) = omega (arith, type-frugal l .spends at, type-onward e l .ahead s at .within h)
-        go (no g) =
-            let u = passes-failed (type-past e l s at 0 (omega (arith, g))) refl in
-            omega (arith, u .paid)
+      type-within : (l at : ℕ) → type e l s at .steps ≤ price most (length s)
+      type-within l at = go (decLe at (length s))
+        where
+          go : Dec (at ≤ length s) → type e l s at .steps ≤ price most (length s)
+          go (yes h) = omega (arith, type-frugal l .spends at, price-up most (type-onward e l .ahead s at .within h))
+          go (no g) =
+              let u = passes-failed (type-past e l s at 0 (omega (arith, g))) refl in
+              omega (arith, u .paid)
 
-    pointer-onward : Onward (fnPtr (type e levels))
-    unfolding fnPtr
-    pointer-onward =
-        bind-onward methodStart-onward (λ n. bind-onward (type-onward e levels) (λ t. bind-onward (parameters-onward n 0 (type-onward e levels)) (λ ts. give-onward _)))
+      method-within : signature e s 0 .steps ≤ price most (length s)
+      method-within =
+          omega (arith, signature-like e s 0 .steps, pointer-frugal (type-frugal levels) .spends 0, price-up most (pointer-onward e .ahead s 0 .within (omega arith)))
 
-    method-within : signature e s 0 .steps ≤ length s
-    method-within =
-        omega (arith, signature-like e s 0 .steps, pointer-frugal (type-frugal levels) .spends 0, pointer-onward .ahead s 0 .within (omega arith))
+-- Where no byte begins such a name.
+module _ (s : List ℕ) (nowhere : (at : ℕ) → at < length s → NamesSpec s at → ⊥) where
+  none-named : (e : Env) (l : ℕ) → Names s 0 e (type e l)
+  none-named e l at i lt lo hi x = omega (arith, name-free e (type e l) i (λ y. nowhere at lt (record { class = (lo, hi); index = i; read = x; spec = y })))
 
-pub suffices : (s : List ℕ) {steps : ℕ} → length s ≤ steps → ((at : ℕ) → at < length s → NamesSpec s at → ⊥) → Suffices s steps
-suffices s h nowhere = record { types = λ e l at. omega (arith, h, type-within s nowhere e l at); method = λ e. omega (arith, h, method-within s nowhere e) }
+  pub suffices : {steps : ℕ} → length s ≤ steps → Suffices s steps
+  suffices h = record {
+    types = λ e l at. omega (arith, h, price-one (length s), type-within s 0 e (none-named e) l at);
+    method = λ e. omega (arith, h, price-one (length s), method-within s 0 e (none-named e));
+  }
+
+-- Where so many steps suffice for every TypeSpec row.
+pub signature-within : (e : Env) (s : List ℕ) (most : ℕ) → SpecsWithin e most → signature e s 0 .steps ≤ (most + 1) * length s
+unfolding price
+signature-within e s most specs = method-within s most e (λ l at i _ _ _ _. specs l i)
 
 -- ---- The search for a byte that begins such a name
 

@@ -1,4 +1,5 @@
 pub mod Laws
+pub mod Specs
 pub mod Forms
 pub mod Shapes
 pub mod Levels

@@ -10,7 +10,9 @@ use Rattle.numbers.specs.Compressed.{uint}
 use Rattle.heaps.specs.Lookups.{isThere}
 use Rattle.steps.specs.declared.Steps.{Steps}
 use Rattle.steps.specs.declared.Steps.the-variants as steps
-use Rattle.record.specs.Types.{Env, simple, type}
+use Rattle.record.specs.Types.{Env, simple, typeFullName, type}
+use Rattle.record.specs.View.{View}
+use Rattle.record.specs.Names.{specBlob}
 use Rattle.record.specs.Methods.{signature}
 use Rattle.passing.specs.declared.Passed.{Passed}
 use Rattle.passing.specs.declared.Passed.the-variants.{Over, Failed, Spent}
@@ -46,3 +48,11 @@ pub record NamesSpec (s : List ℕ) (at : ℕ) : Type 0 where
 pub record Suffices (s : List ℕ) (steps : ℕ) : Type 0 where
   pub types : (e : Env) (l at : ℕ) → type e l s at .steps ≤ steps
   pub method : (e : Env) → signature e s 0 .steps ≤ steps
+
+-- So many steps suffice for every TypeSpec row, at any level.
+abbrev pub SpecsWithin : Env → ℕ → Type 0
+SpecsWithin e most = (l i : ℕ) → typeFullName e (type e l) i .steps ≤ most
+
+-- The same of the TypeSpec rows of a view, up to one: of the signature of each that has one.
+abbrev pub RowsWithin : View → ℕ → ℕ → Type 0
+RowsWithin v most n = (r : ℕ) (spec : List ℕ) → r ≤ n → specBlob v r ≡ some spec → Suffices spec most

@@ -6,6 +6,7 @@ use frames::Ascent;
 use frames::Descent;
 use numbers::Uint;
 use rendering::Rendering;
+use rows::columns;
 use sig_leaves::Blob;
 use sig_leaves::LEVELS;
 use sig_leaves::Owner;
@@ -14,13 +15,13 @@ use steps::Steps;
 ghost use mathlib.Core.Path.{_≡_};
 ghost use mathlib.Core.Bool.{true, false};
 ghost use mathlib.Core.List.{List, []};
-ghost use mathlib.Core.Option.{Option};
+ghost use mathlib.Core.Option.{Option, some};
 ghost use Prim.Native.Nat.{ℕ, _<_};
 ghost use lib.ListN.{length};
 ghost use Rattle.buffers.specs.Texts.{Text};
-ghost use Rattle.heaps.specs.Lookups.{isThere};
+ghost use Rattle.heaps.specs.Lookups.{Name, isThere};
 ghost use Rattle.record.specs.Methods.{signature};
-ghost use Rattle.record.specs.Names.{nameAt};
+ghost use Rattle.record.specs.Names.{nameAt, specBlob, env};
 ghost use Rattle.record.specs.Readings.{known};
 ghost use Rattle.record.specs.Types.{typeFullName, parameters, classType, generic, fnPtr, shape, array, type};
 ghost use Rattle.rows.specs.Layout.{Laid, viewIn};
@@ -28,7 +29,7 @@ ghost use Rattle.sig_leaves.specs.Leaves.{genericsOf};
 ghost use Rattle.frames.specs.Stack.{Other};
 ghost use Rattle.signatures.specs.Environment.{envIn, ownerAt, envOf};
 ghost use Rattle.signatures.specs.Parts.{ownerBy};
-ghost use Rattle.passing.specs.Passing.{Passes, leftOf, Simple, NamesSpec, Suffices};
+ghost use Rattle.passing.specs.Passing.{Passes, leftOf, Simple, NamesSpec, Suffices, SpecsWithin};
 
 // A part of a signature that was passed over: the position after it and the steps left, where it has a text and where it has none. Or
 // the steps do not suffice.
@@ -171,6 +172,38 @@ pub fn surely_suffices(sig: &[u8], steps: u64) -> bool
             return false;
         }
         i += 1;
+    }
+    true
+}
+
+// Whether so many steps surely suffice for TypeSpec row r, from 1; a row without a signature takes none.
+fn spec_suffices(tables: &[u8], blob: &[u8], layout: &[u32], row: u32, most: u64) -> bool
+    requires { ⌜ Laid (now tables) (now layout) ⌝ }
+    ensures { λ r. let v = viewIn (now (tables .entry)) (now (layout .entry)) in
+        ⌜ ((strings spec : List ℕ) → r ≡ true → specBlob (v strings (now (blob .entry))) row ≡ some spec → Suffices spec most) ⌝ }
+{
+    match sig_leaves::spec_blob(tables, blob, layout, row) {
+        Blob::At { start, len } => {
+            let spec = numbers::cut(blob, start, len);
+            surely_suffices(spec, most)
+        }
+        Blob::Missing => true,
+    }
+}
+
+// The same of every TypeSpec row, whatever its generic parameters are called.
+pub fn specs_suffice(tables: &[u8], blob: &[u8], layout: &[u32], most: u64) -> bool
+    requires { ⌜ Laid (now tables) (now layout) ⌝ }
+    ensures { λ r. let v = viewIn (now (tables .entry)) (now (layout .entry)) in
+        ⌜ ((strings : List ℕ) (g h : List Name) → r ≡ true → SpecsWithin (env (v strings (now (blob .entry))) g h) most) ⌝ }
+{
+    let n = rows::count_rows(layout, columns::SPEC_SIGNATURE);
+    let mut row = 0;
+    while row < n {
+        row += 1;
+        if !spec_suffices(tables, blob, layout, row as u32, most) {
+            return false;
+        }
     }
     true
 }

@@ -5,7 +5,7 @@ use Rattle.answers.proofs.with_bases.Lts as lts
 
 -- src/lib.rt:84:1
 returns : tie.Need-returns
-returns c = λ v heap k bases. record { own = k .own; signature = k .signature; bases = bases; fits = k .fits }
+returns c = λ v heap k bases. record { own = k .own; signature = k .signature; bases = bases }
 
 pub with-bases-spec : {M : Type 1} → statement M
 with-bases-spec = tie.close (tie.spec returns)

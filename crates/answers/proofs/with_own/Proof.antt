@@ -5,7 +5,7 @@ use Rattle.answers.proofs.with_own.Lts as lts
 
 -- src/lib.rt:58:1
 returns : tie.Need-returns
-returns c = λ v heap k own. record { own = own; signature = k .signature; bases = k .bases; fits = k .fits }
+returns c = λ v heap k own. record { own = own; signature = k .signature; bases = k .bases }
 
 pub with-own-spec : {M : Type 1} → statement M
 with-own-spec = tie.close (tie.spec returns)

@@ -1,6 +1,7 @@
 use Rattle.buffers.specs.Texts.{q}
 use native.Mathlib.Omega.{arith}
 use Rattle.buffers.proofs.Writing.{kept-same}
+use Rattle.lines.proofs.Ceiling.{counts-at}
 use Rattle.lines.proofs.Stepping.{classes-shows, class-shows, flags-shows, generic-shows, base-shows, method-shows, method-flags-shows, method-generic-shows, returns-shows, param-type-shows, param-name-shows}
 use Rattle.listing_steps.specs.Beginning.{stop, number, name, done}
 use borrow.Author.Needs.{needs}
@@ -276,7 +277,7 @@ same-length-2 c = search needs
 
 -- src/lib.rt:113:1
 returns-3 : tie.Need-returns-3
-returns-3 c = λ v. name (q "class=") (omega arith) (c .before .before .before .before .push2 .ensures) (class-shows v _ (c .before .before .before .before .before .before .before .enum-told3 .given .1) (c .before .cursor-at2 .ensures) (c .done-cursor .ensures))
+returns-3 c = λ v. name (q "class=") (omega arith) (c .before .before .before .before .push2 .ensures) (class-shows v _ (c .before .before .before .before .before .before .before .enum-told3 .given .1) (c .before .cursor-at2 .ensures) (c .done-cursor .ensures)) (counts-at v _ (c .before .before .before .before .before .before .before .enum-told3 .given .1))
 
 -- src/lib.rt:113:1
 same-length-3 : tie.Need-same-length-3
@@ -292,7 +293,7 @@ same-length-4 c = search needs
 
 -- src/lib.rt:113:1
 returns-5 : tie.Need-returns-5
-returns-5 c = λ v. name (q "generic=") (omega arith) (c .before .before .before .before .before .push4 .ensures) (generic-shows v _ (c .before .before .before .before .before .before .before .before .enum-told5 .given .1) (c .before .before .next-number .ensures) (c .before .cursor-at4 .ensures) (c .cursor-at5 .ensures))
+returns-5 c = λ v. name (q "generic=") (omega arith) (c .before .before .before .before .before .push4 .ensures) (generic-shows v _ (c .before .before .before .before .before .before .before .before .enum-told5 .given .1) (c .before .before .next-number .ensures) (c .before .cursor-at4 .ensures) (c .cursor-at5 .ensures)) (counts-at v _ (c .before .before .before .before .before .before .before .before .enum-told5 .given .1))
 
 -- src/lib.rt:113:1
 same-length-5 : tie.Need-same-length-5
@@ -300,7 +301,7 @@ same-length-5 c = search needs
 
 -- src/lib.rt:113:1
 returns-6 : tie.Need-returns-6
-returns-6 c = λ v. name (q "base=") (omega arith) (c .before .before .before .before .before .push5 .ensures) (base-shows v _ (c .before .before .before .before .before .before .before .before .enum-told6 .given .1) (c .before .before .next-number2 .ensures) (c .before .cursor-at6 .ensures) (c .cursor-at7 .ensures))
+returns-6 c = λ v. name (q "base=") (omega arith) (c .before .before .before .before .before .push5 .ensures) (base-shows v _ (c .before .before .before .before .before .before .before .before .enum-told6 .given .1) (c .before .before .next-number2 .ensures) (c .before .cursor-at6 .ensures) (c .cursor-at7 .ensures)) (counts-at v _ (c .before .before .before .before .before .before .before .before .enum-told6 .given .1))
 
 -- src/lib.rt:113:1
 same-length-6 : tie.Need-same-length-6
@@ -308,7 +309,7 @@ same-length-6 c = search needs
 
 -- src/lib.rt:113:1
 returns-7 : tie.Need-returns-7
-returns-7 c = λ v. name (q "method=") (omega arith) (c .before .before .before .before .before .push6 .ensures) (method-shows v _ (c .before .before .before .before .before .before .before .before .enum-told7 .given .1) (c .before .before .cursor-at8 .ensures) (c .before .next-class .ensures) (c .cursor-at9 .ensures))
+returns-7 c = λ v. name (q "method=") (omega arith) (c .before .before .before .before .before .push6 .ensures) (method-shows v _ (c .before .before .before .before .before .before .before .before .enum-told7 .given .1) (c .before .before .cursor-at8 .ensures) (c .before .next-class .ensures) (c .cursor-at9 .ensures)) (counts-at v _ (c .before .before .before .before .before .before .before .before .enum-told7 .given .1))
 
 -- src/lib.rt:113:1
 same-length-7 : tie.Need-same-length-7
@@ -324,7 +325,7 @@ same-length-8 c = search needs
 
 -- src/lib.rt:113:1
 returns-9 : tie.Need-returns-9
-returns-9 c = λ v. name (q "mgeneric=") (omega arith) (c .before .before .before .before .before .push8 .ensures) (method-generic-shows v _ (c .before .before .before .before .before .before .before .before .enum-told9 .given .1) (c .before .before .next-number3 .ensures) (c .before .cursor-at11 .ensures) (c .cursor-at12 .ensures))
+returns-9 c = λ v. name (q "mgeneric=") (omega arith) (c .before .before .before .before .before .push8 .ensures) (method-generic-shows v _ (c .before .before .before .before .before .before .before .before .enum-told9 .given .1) (c .before .before .next-number3 .ensures) (c .before .cursor-at11 .ensures) (c .cursor-at12 .ensures)) (counts-at v _ (c .before .before .before .before .before .before .before .before .enum-told9 .given .1))
 
 -- src/lib.rt:113:1
 same-length-9 : tie.Need-same-length-9
@@ -332,7 +333,7 @@ same-length-9 c = search needs
 
 -- src/lib.rt:113:1
 returns-10 : tie.Need-returns-10
-returns-10 c = λ v. name (q "returns=") (omega arith) (c .before .before .before .before .before .push9 .ensures) (returns-shows v _ (c .before .before .before .before .before .before .before .before .enum-told10 .given .1) (c .before .before .cursor-at13 .ensures) (c .before .next-number4 .ensures) (c .cursor-at14 .ensures))
+returns-10 c = λ v. name (q "returns=") (omega arith) (c .before .before .before .before .before .push9 .ensures) (returns-shows v _ (c .before .before .before .before .before .before .before .before .enum-told10 .given .1) (c .before .before .cursor-at13 .ensures) (c .before .next-number4 .ensures) (c .cursor-at14 .ensures)) (counts-at v _ (c .before .before .before .before .before .before .before .before .enum-told10 .given .1))
 
 -- src/lib.rt:113:1
 same-length-10 : tie.Need-same-length-10
@@ -340,7 +341,7 @@ same-length-10 c = search needs
 
 -- src/lib.rt:113:1
 returns-11 : tie.Need-returns-11
-returns-11 c = λ v. name (q "ptype=") (omega arith) (c .before .before .before .before .before .push10 .ensures) (param-type-shows v _ (c .before .before .before .before .before .before .before .before .enum-told11 .given .1) (c .before .before .cursor-at15 .ensures) (c .before .next-number5 .ensures) (c .cursor-at16 .ensures))
+returns-11 c = λ v. name (q "ptype=") (omega arith) (c .before .before .before .before .before .push10 .ensures) (param-type-shows v _ (c .before .before .before .before .before .before .before .before .enum-told11 .given .1) (c .before .before .cursor-at15 .ensures) (c .before .next-number5 .ensures) (c .cursor-at16 .ensures)) (counts-at v _ (c .before .before .before .before .before .before .before .before .enum-told11 .given .1))
 
 -- src/lib.rt:113:1
 same-length-11 : tie.Need-same-length-11
@@ -348,7 +349,7 @@ same-length-11 c = search needs
 
 -- src/lib.rt:113:1
 returns-12 : tie.Need-returns-12
-returns-12 c = λ v. name (q "pname=") (omega arith) (c .before .before .before .before .before .before .push11 .ensures) (param-name-shows v _ (c .before .before .before .before .before .before .before .before .before .enum-told12 .given .1) (c .before .before .before .next-number6 .ensures) (c .before .before .cursor-at17 .ensures) (c .before .next-number7 .ensures) (c .cursor-at18 .ensures))
+returns-12 c = λ v. name (q "pname=") (omega arith) (c .before .before .before .before .before .before .push11 .ensures) (param-name-shows v _ (c .before .before .before .before .before .before .before .before .before .enum-told12 .given .1) (c .before .before .before .next-number6 .ensures) (c .before .before .cursor-at17 .ensures) (c .before .next-number7 .ensures) (c .cursor-at18 .ensures)) (counts-at v _ (c .before .before .before .before .before .before .before .before .before .enum-told12 .given .1))
 
 -- src/lib.rt:113:1
 returns-13 : tie.Need-returns-13

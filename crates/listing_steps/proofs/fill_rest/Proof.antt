@@ -1,6 +1,8 @@
+use mathlib.Core.Bool.{true, false}
+use Rattle.lines.specs.Cursors.{isOverAt}
 use mathlib.Core.Path.{_≡_, refl, sym, _∙_}
 use mathlib.Core.List.{List}
-use Prim.Native.Nat.{ℕ, _+_, _<_}
+use Prim.Native.Nat.{ℕ, _+_, _<_, _≤_}
 use native.Mathlib.Omega.{arith}
 use lib.ListN.{length}
 use borrow.Author.Needs.{needs}
@@ -10,97 +12,85 @@ use Rattle.rows.specs.Layout.{viewIn}
 use Rattle.answers.specs.Known.{Knows}
 use Rattle.lines.specs.Lines.{lineRoom}
 use Rattle.listing_steps.specs.Filling.{Piece, Going}
-use Rattle.listing_steps.proofs.Filling.{going-out, going-done, made-inside, moved-full, moved-on, moved-short}
+use Rattle.listing_steps.proofs.Filling.{going-out, going-done, made-long, made-inside, moved-full, moved-on, moved-short}
 use Rattle.listing_steps.proofs.fill_rest.Statement.{statement}
 use Rattle.listing_steps.proofs.fill_rest.Tie as tie
 use Rattle.listing_steps.proofs.fill_rest.Reads as reads
 use Rattle.listing_steps.proofs.fill_rest.Lts as lts
 use Rattle.buffers.proofs.push.Reads as push-reads
-use Rattle.listing_steps.proofs.fill_lines.Reads as fill-lines-reads
+use Rattle.listing_steps.proofs.fill_some.Reads as fill-some-reads
 use Rattle.listing_steps.proofs.is_done.Reads as is-done-reads
 use Rattle.numbers.proofs.cut.Reads as cut-reads
 
 abbrev Inv-loop : tie.InvT-loop
-Inv-loop tables strings blob options layout out₀ space₀ c₀ at₀ k₀ left₀ out space c at k left =
+Inv-loop tables strings blob options layout all out₀ space₀ c₀ at₀ k₀ within₀ left₀ out space c at k within left =
     let v = view options tables strings blob in
     ((p : Piece) (b : List ℕ) → Going v p b out₀ c₀ at₀ left₀ → (0 < left₀ → length b < at₀ + lineRoom) → Going v p b out c at left × (0 < left → length b < at + lineRoom))
     × Knows (viewIn tables layout strings blob) blob k
     × (length out ≡ length out₀)
-    × (length space ≡ lineRoom)
+    × (lineRoom ≤ length space)
+    × (length space ≡ length space₀)
+    × (within ≡ true → isOverAt v c ≡ false)
 
 abbrev μ-loop : tie.MeasureT-loop
-μ-loop tables strings blob options layout out₀ space₀ c₀ at₀ k₀ left₀ out space c at k left = left
+μ-loop tables strings blob options layout all out₀ space₀ c₀ at₀ k₀ within₀ left₀ out space c at k within left = left
 
--- src/lib.rt:327:5
 loop-holds : tie.Need-loop-holds Inv-loop μ-loop
-loop-holds c = (λ p b g s. (g, s), c .before .before .before .before .before .before .before .before .pre .1 .1, refl, search needs)
+loop-holds c = (λ p b g s. (g, s), c .before .before .before .before .before .before .before .before .pre .1 .1 .0, refl, omega arith, refl, c .before .before .before .before .before .before .before .before .pre .1 .1 .1 .1)
 
--- src/lib.rt:328:12
 is-done-requires : tie.Need-is-done-requires Inv-loop μ-loop
 is-done-requires c κs = search needs
 
--- src/lib.rt:329:13
 same-length : tie.Need-same-length Inv-loop μ-loop
 same-length c = search needs
 
--- src/lib.rt:329:13
 returns : tie.Need-returns Inv-loop μ-loop
 returns c =
     let inv = c .before .before .before .loop .inv in
-    (λ d n b h. going-out (going-done (inv .0 _ _ (h .going) (h .room) .0) (c .before .is-done .ensures) (c .if1 .taken)) (omega arith), inv .1)
+    (λ d b h. going-out (going-done (inv .0 _ _ (h .going) (h .room) .0) (c .before .is-done .ensures) (c .if1 .taken)) (omega arith), inv .1)
 
--- src/lib.rt:343:13
-slice-aggregate-fill-lines : tie.Need-slice-aggregate-fill-lines Inv-loop μ-loop
-slice-aggregate-fill-lines c = search (needs, c .before .before .before .before .loop .inv .3)
+slice-aggregate-fill-some : tie.Need-slice-aggregate-fill-some Inv-loop μ-loop
+slice-aggregate-fill-some c = search (needs, c .before .before .before .before .loop .inv .4)
 
--- src/lib.rt:334:13
-fill-lines-requires : tie.Need-fill-lines-requires Inv-loop μ-loop
-fill-lines-requires c κs =
+fill-some-requires : tie.Need-fill-some-requires Inv-loop μ-loop
+fill-some-requires c κs =
     let start = c .before .before .before .before .before .before .before .before .before .before .before .before .before .pre in
-    (start .0, (start .1 .0, c .before .before .before .before .loop .inv .1))
+    (start .0, (start .1 .0, (c .before .before .before .before .loop .inv .1, (start .1 .1 .1 .0, (c .before .before .before .before .loop .inv .5, (omega arith, omega arith))))))
 
--- src/lib.rt:347:46
 slice-aggregate-cut : tie.Need-slice-aggregate-cut Inv-loop μ-loop
 slice-aggregate-cut c = search needs
 
--- src/lib.rt:347:33
 cut-requires : tie.Need-cut-requires Inv-loop μ-loop
 cut-requires c κs = search needs
 
--- src/lib.rt:347:13
 push-requires : tie.Need-push-requires Inv-loop μ-loop
 push-requires c κs = search needs
 
--- src/lib.rt:349:13
 same-length-2 : tie.Need-same-length-2 Inv-loop μ-loop
 same-length-2 c = search needs
 
--- src/lib.rt:349:13
 returns-2 : tie.Need-returns-2 Inv-loop μ-loop
 returns-2 c =
     let inv = c .before .before .before .before .before .before .before .before .before .before .before .before .before .before .loop .inv in
-    let one = c .before .before .before .before .before .before .before .before .before .fill-lines .ensures in
+    let one = c .before .before .before .before .before .before .before .before .before .fill-some .ensures in
     let undone = sym (c .before .before .before .before .before .before .before .before .before .before .before .before .is-done .ensures) ∙ c .before .before .before .before .before .before .before .before .before .before .before .if1 .left in
     let is = cut-is _ _ _ _ (made-inside (one .0) (inv .3) undone) (c .before .before .before .before .cut .ensures) .bytes in (
-      λ d n b h.
+      λ d b h.
           let x = inv .0 _ _ (h .going) (h .room) in
           going-out (moved-full (one .0) (inv .3) (x .0) (x .1 (c .before .before .before .before .before .before .before .before .before .before .before .before .before .loop-test .taken)) undone is (c .before .before .before .push .ensures) (c .if2 .taken)) (omega arith),
       inv .1,
     )
 
--- src/lib.rt:356:9
 sub-left : tie.Need-sub-left Inv-loop μ-loop
 sub-left c = search needs
 
--- src/lib.rt:327:5
 loop-less : tie.Need-loop-less Inv-loop μ-loop
 loop-less c = search needs
 
--- src/lib.rt:327:5
 loop-again : tie.Need-loop-again Inv-loop μ-loop
 loop-again c =
     let inv = c .before .before .before .before .before .before .before .before .before .before .before .before .before .before .before .before .loop .inv in
-    let one = c .before .before .before .before .before .before .before .before .before .before .before .fill-lines .ensures in
+    let one = c .before .before .before .before .before .before .before .before .before .before .before .fill-some .ensures in
     let more = c .before .before .before .before .before .before .before .before .before .before .before .before .before .before .before .loop-test .taken in
     let undone = sym (c .before .before .before .before .before .before .before .before .before .before .before .before .before .before .is-done .ensures) ∙ c .before .before .before .before .before .before .before .before .before .before .before .before .before .if1 .left in
     let is = cut-is _ _ _ _ (made-inside (one .0) (inv .3) undone) (c .before .before .before .before .before .before .cut .ensures) .bytes in
@@ -112,18 +102,18 @@ loop-again c =
           ),
       one .1,
       pushed .keeps .long ∙ inv .2,
-      one .0 .going .wrote .keeps .long ∙ inv .3,
+      omega (arith, made-long (one .0) (inv .3), inv .3),
+      made-long (one .0) (inv .3) ∙ inv .4,
+      one .0 .within,
     )
 
--- src/lib.rt:304:1
 same-length-3 : tie.Need-same-length-3 Inv-loop μ-loop
 same-length-3 c = search needs
 
--- src/lib.rt:304:1
 returns-3 : tie.Need-returns-3 Inv-loop μ-loop
 returns-3 c =
     let inv = c .before .loop .inv in
-    (λ d n b h. going-out (inv .0 _ _ (h .going) (h .room) .0) (omega (arith, c .loop-test .left)), inv .1)
+    (λ d b h. going-out (inv .0 _ _ (h .going) (h .room) .0) (omega (arith, c .loop-test .left)), inv .1)
 
 pub fill-rest-spec : {M : Type 1} → statement M
 fill-rest-spec =
@@ -135,8 +125,8 @@ fill-rest-spec =
     is-done-requires
     same-length
     returns
-    slice-aggregate-fill-lines
-    fill-lines-requires
+    slice-aggregate-fill-some
+    fill-some-requires
     slice-aggregate-cut
     cut-requires
     push-requires

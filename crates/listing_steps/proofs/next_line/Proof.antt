@@ -1,5 +1,5 @@
 use mathlib.Core.List.{[]}
-use Rattle.listing_steps.proofs.Beginning.{stop-next, number-next, name-next, done-next, name-room}
+use Rattle.listing_steps.proofs.Beginning.{stop-next, number-next, name-next, done-next, name-room, name-within}
 use borrow.Author.Needs.{needs}
 use Rattle.listing_steps.proofs.next_line.Statement.{statement}
 use Rattle.listing_steps.proofs.next_line.Tie as tie
@@ -40,7 +40,9 @@ name-line-requires : tie.Need-name-line-requires
 name-line-requires c κs =
     let start = c .before .before .before .before .before .before .before .before .before .before .before .before .before .pre in
     let same = start .1 .0 in
-    (start .0, (start .1 .1 .0, name-room (same [] []) (c .before .before .before .before .before .before .begin-line .ensures) (c .before .before .start2 .given .1) (start .1 .1 .1)))
+    let begun = c .before .before .before .before .before .before .begin-line .ensures in
+    let told = c .before .before .start2 .given .1 in
+    (start .0, (start .1 .1 .0, (name-room (same [] []) begun told (start .1 .1 .1 .0), name-within (same _ _) begun told (start .1 .1 .1 .1))))
 
 -- src/lib.rt:237:34
 enum-told-2 : tie.Need-enum-told-2

@@ -60,7 +60,7 @@ returns-3 c = λ _.
     let at-if1 = at-loop .before in
     let at-wide = at-if1 .before in
     let a = at-wide .before .before .args in
-    suffices (a .sig .now) (omega (arith, at-if1 .if1 .left, at-wide .wide .ensures)) (λ at lt. at-loop .loop .inv at (omega (arith, lt, c .loop-test .left)))
+    suffices (a .sig .now) (λ at lt. at-loop .loop .inv at (omega (arith, lt, c .loop-test .left))) (omega (arith, at-if1 .if1 .left, at-wide .wide .ensures))
 
 pub surely-suffices-spec : {M : Type 1} → statement M
 surely-suffices-spec =
