@@ -12,8 +12,13 @@
  * words, offsets or steps. Nothing may write to a stream while a call runs. A call keeps nothing: it writes to the buffer and to the words,
  * the offsets or the steps that it is lent and to nothing else, allocates nothing, and may run in many threads at once.
  *
- * Then come the options, a set of bits that says how the streams are opened: 0 is the base. No other bit has a meaning yet, and bits
- * without one are ignored. A dn_streams holds all seven, and DN_STREAMS spreads it:
+ * Then come the options, a set of bits that says how the streams are opened: 0 is the base. Bits without a meaning are ignored.
+ *
+ *     2 (DN_TAKER)  the class that has a method is the only one to read its signature. Where its reading fails, the method has no return
+ *                   type (5) and no parameters. Without this bit every class whose method range has the method reads it, and the reading
+ *                   of the lowest class that succeeds stands, as in the Rust. No other answer differs.
+ *
+ * A dn_streams holds all seven, and DN_STREAMS spreads it:
  *
  *     dn_streams s = {tables, tables_len, strings, strings_len, blob, blob_len, 0};
  *     dn_reply r = dn_class_name(DN_STREAMS(s), class_number, buf, buf_len);
@@ -41,7 +46,7 @@
  *
  *     dn_base_count, dn_base_name         all base types of the class, those without a name included
  *     dn_return_type, dn_param_count,     all of the method's signature, the return type and every parameter, once for each class whose
- *     dn_param_type, dn_param_name        method range has the method
+ *     dn_param_type, dn_param_name        method range has the method; with DN_TAKER once, as the class reads it that has the method
  *     dn_ask_number, dn_ask_name          as the call that the question means; every other call counts nothing
  *
  * A call is refused in this order: 1, 2, 3; 4 for the class or the method, or a question that there is not; 11 exactly where it counts more
@@ -86,6 +91,9 @@ enum {
     DN_NOT_FOUND = 7,
     DN_TOO_MANY_STEPS = 11
 };
+
+/* The bits of the options. */
+enum { DN_TAKER = 2 };
 
 /* Why a string is missing: beside 7 of a string and 5 of a class, method or generic name; else 0. */
 enum { DN_NO_REASON = 0, DN_NULL_INDEX = 1, DN_PAST_END = 2, DN_NO_ZERO = 3 };
@@ -303,7 +311,7 @@ dn_reply dn_ask_name(const uint8_t *tables, size_t tables_len, const uint8_t *st
  * The words are there for speed alone: the rows of a class are found by them without a search. Any number of words will do, 0 too, and
  * whatever they hold; the piece is the same, and after the call every word is 0. 19,000 words serve every input of 65,536 bytes. In
  * general these suffice: 4 for each row of TypeDef, 2 for each of MethodDef, 1 for each of GenericParam, InterfaceImpl and NestedClass,
- * and 114 more. With fewer some rows are searched for. */
+ * and 115 more. With fewer some rows are searched for. */
 dn_piece dn_listing(const uint8_t *tables, size_t tables_len, const uint8_t *strings, size_t strings_len,
                     const uint8_t *blob, size_t blob_len, uint32_t options,
                     dn_cursor from, uint32_t *work, size_t work_len, uint8_t *buf, size_t buf_len);

@@ -5,9 +5,10 @@
    CASES is crates/replay/data/cases: inputs, and for each the text that the listing program prints; that crate's src/main.rt says the form.
    WRONG is the file `wrong` beside it, with texts that are wrong on purpose: each must differ. Each question is asked by its number and by
    the call's own name, which replay.c holds against the record: for all numbers inside and some outside, in buffers of several lengths, with
-   an allowance of few steps, of which both must leave the same. The options say nothing yet, so replies, buffers and what is left must be
-   the same for all. Each piece is asked for without lent words and with many, and must be the same. Exit status: 0 all is as it should be,
-   1 something is not, 2 a file cannot be read. */
+   an allowance of few steps, of which both must leave the same. In each of the two modes of opening replies, buffers and what is left must be
+   the same for all options, whose other bits say nothing. So must the listing, which is the recorded one in the base; modes.c holds that
+   with DN_TAKER against the calls. Each piece is asked for without lent words and with many, and must be the same. Exit status: 0 all is as
+   it should be, 1 something is not, 2 a file cannot be read. */
 #include <stdarg.h>
 #include "calls.h"
 #include "listed.h"
@@ -16,9 +17,11 @@
 
 enum { LARGEST = 1 << 16 }; /* bytes of a buffer */
 
-static const uint32_t words[] = {0, 1, 2, 4, 0x80000000, UINT32_MAX}; /* options, and numbers that a question does not have */
-static const size_t rooms[] = {0, 3, 40, 4096};                       /* bytes of a buffer for a name */
-static const uint64_t few = 10000;                                    /* steps: so that what takes many is refused soon */
+/* Options, and numbers that a question does not have. */
+static const uint32_t words[] = {0, 1, 4, 0x80000000, ~(uint32_t)DN_TAKER, DN_TAKER, UINT32_MAX};
+static const uint32_t modes[] = {0, DN_TAKER};
+static const size_t rooms[] = {0, 3, 40, 4096}; /* bytes of a buffer for a name */
+static const uint64_t few = 10000;              /* steps: so that what takes many is refused soon */
 static const uint32_t no_questions[] = {0, 9, 100, 109, 257, 65537, 0x80000001, UINT32_MAX};
 static const uint32_t no_places[] = {13, 256, 65536, UINT32_MAX};
 static const dn_cursor start;
@@ -67,12 +70,15 @@ static int as_expected(dn_reply reply, dn_reply expected, uint64_t expected_left
     return same(reply, expected) && left == expected_left && !memcmp(other, buf, room) && other[room] == 0x55;
 }
 
-static void check_reply(const struct call *call, const uint32_t *rows, size_t room) {
-    in.options = 0;
+static int is_in_mode(uint32_t options, uint32_t mode) { return (options & DN_TAKER) == mode; }
+
+static void check_reply(const struct call *call, const uint32_t *rows, size_t room, uint32_t mode) {
+    in.options = mode;
     dn_reply expected = ask(call, rows, full(buf, room, 0xAA));
     uint64_t expected_left = left;
     for (size_t i = 0; i < COUNT(words); i++) {
         uint32_t r[3];
+        if (!is_in_mode(words[i], mode)) continue;
         in.options = words[i];
         dn_reply reply = ask(call, rows, full(other, room, 0x55));
         check(as_expected(reply, expected, expected_left, room), "dn_%s %u %u %u, %zu bytes", call->name, rows[0], rows[1], rows[2], room);
@@ -84,10 +90,11 @@ static void check_reply(const struct call *call, const uint32_t *rows, size_t ro
 }
 
 static void check_call(const struct call *call, const uint32_t *rows) {
-    for (size_t i = 0; i < (call->is_name ? COUNT(rooms) : 1); i++) check_reply(call, rows, rooms[i]);
+    for (size_t m = 0; m < COUNT(modes); m++)
+        for (size_t i = 0; i < (call->is_name ? COUNT(rooms) : 1); i++) check_reply(call, rows, rooms[i], modes[m]);
 }
 
-/* All numbers of a call, one past each end, and the last that there can be. */
+/* All numbers of a call, one past each end, and the last that there can be. In the base there are at least as many as with DN_TAKER. */
 static void each_row(const struct call *call, int depth, uint32_t *rows) {
     if (depth == call->rows) {
         check_call(call, rows);
@@ -203,14 +210,36 @@ static size_t check_lines(void) {
     return longest;
 }
 
-static void check_listing(void) {
+/* The text by all options of a mode. */
+static void check_mode(uint32_t mode) {
+    in.options = mode;
     const size_t sizes[] = {check_lines(), DN_LONGEST_LINE, LARGEST};
-    check(is_nothing(list(start, buf, 0, 0xAA), 0, start), "dn_listing, 0 bytes");
     for (size_t i = 0; i < COUNT(words); i++)
-        for (size_t k = 0; k < COUNT(sizes); k++) {
+        for (size_t k = 0; is_in_mode(words[i], mode) && k < COUNT(sizes); k++) {
             in.options = words[i];
             check(lists(sizes[k]), "dn_listing, %zu bytes", sizes[k]);
         }
+}
+
+/* The text with DN_TAKER, by large pieces. */
+static bytes text_by_taker(void) {
+    bytes made = {malloc(1), 0};
+    dn_piece p = {0, 0, start};
+    in.options = DN_TAKER;
+    while (!p.done) {
+        p = list(p.next, buf, LARGEST, 0xAA);
+        if (!made.at || !(made.at = realloc(made.at, made.len + p.used + 1))) exit(2);
+        memcpy(made.at + made.len, buf, p.used), made.len += p.used;
+    }
+    return made;
+}
+
+static void check_listing(void) {
+    check(is_nothing(list(start, buf, 0, 0xAA), 0, start), "dn_listing, 0 bytes");
+    check_mode(0);
+    text = text_by_taker();
+    check_mode(DN_TAKER);
+    free(text.at);
     for (size_t i = 0; i < COUNT(no_places); i++) {
         dn_piece p = list((dn_cursor){no_places[i], 0, 0, 0}, buf, DN_LONGEST_LINE, 0xAA);
         check(is_piece(p, DN_LONGEST_LINE) && !p.used && p.done, "dn_listing from place %u", no_places[i]);

@@ -1,9 +1,9 @@
 /* The calls of include/dotnet_tables.h, linked as a C program links them, against recorded answers of the Rust:
 
-     replay CALLS STEPS WRONG_CALLS WALKS WRONG_WALKS
+     replay CALLS STEPS MODES WRONG_CALLS WALKS WRONG_WALKS
 
-   CALLS and STEPS are crates/call_vectors/data/cases and steps, and WALKS crates/extents_replay/data/cases; those crates' src/main.rt say
-   their forms. The files `wrong` beside them hold answers that are wrong on purpose: each must differ. A name is asked for in buffers of
+   CALLS, STEPS and MODES are crates/call_vectors/data/cases, steps and modes, and WALKS crates/extents_replay/data/cases; those crates'
+   src/main.rt say their forms. The files `wrong` beside them hold answers that are wrong on purpose: each must differ. A name is asked for in buffers of
    several lengths, full of 0xAA before, and every byte is looked at afterwards; what is left of an allowance is looked at too, and a call
    that takes one is asked by its name and by its question. Every call is also asked with null pointers of length 0 for each choice of its
    streams and its buffer, which must answer as other pointers of length 0 do. Exit status: 0 all is as it should be, 1 something is not,
@@ -14,6 +14,7 @@ enum { KINDS = 64 }; /* of tables */
 enum { WALKS = 2 };
 
 static bytes tables, strings, blob;
+static uint32_t options;
 
 /* A call, its numbers, and where it has an allowance that and what is to be left of it. */
 typedef struct question {
@@ -26,7 +27,7 @@ typedef struct question {
 /* The call of that name. Those that count steps take an allowance, and no others do. */
 static int ask_by_name(const question *q, uint64_t *steps, uint8_t *buf, size_t len, dn_reply *reply) {
     uint32_t c = q->numbers[0], m = q->numbers[1], p = q->numbers[2];
-    dn_streams s = {tables.at, tables.len, strings.at, strings.len, blob.at, blob.len, 0};
+    dn_streams s = {tables.at, tables.len, strings.at, strings.len, blob.at, blob.len, options};
 #define CALL(name, ...) if (!q->limited && !strcmp(q->call, #name)) return *reply = dn_##name(DN_STREAMS(s) __VA_ARGS__), 1
 #define COUNTING(name, ...) if (q->limited && !strcmp(q->call, #name)) return *reply = dn_##name(DN_STREAMS(s), steps, __VA_ARGS__), 1
     CALL(class_count, );
@@ -58,7 +59,7 @@ static int ask_by_question(const question *q, uint64_t *steps, uint8_t *buf, siz
         {"method_generic_name", DN_ASK_METHOD_GENERIC_NAME}, {"return_type", DN_ASK_RETURN_TYPE}, {"param_type", DN_ASK_PARAM_TYPE},
         {"param_name", DN_ASK_PARAM_NAME}};
     const uint32_t *n = q->numbers;
-    dn_streams s = {tables.at, tables.len, strings.at, strings.len, blob.at, blob.len, 0};
+    dn_streams s = {tables.at, tables.len, strings.at, strings.len, blob.at, blob.len, options};
     for (size_t i = 0; i < sizeof questions / sizeof *questions; i++) {
         uint32_t number = questions[i].number;
         if (strcmp(q->call, questions[i].call)) continue;
@@ -189,9 +190,16 @@ static void stream_of(const char *line, const char *key, bytes *stream) {
     }
 }
 
+/* A block begins with the options of the base. */
+static void options_of(const char *line) {
+    unsigned long bits;
+    if (*line == '@') options = 0;
+    if (sscanf(line, "options %lu", &bits) == 1) options = (uint32_t)bits;
+}
+
 static void replay_lines(bytes file, int (*agrees)(const char *)) {
     for (char *line = strtok((char *)file.at, "\n"); line; line = strtok(NULL, "\n")) {
-        stream_of(line, "tables", &tables), stream_of(line, "strings", &strings), stream_of(line, "blob", &blob);
+        options_of(line), stream_of(line, "tables", &tables), stream_of(line, "strings", &strings), stream_of(line, "blob", &blob);
         if (*line != '#' && *line != '@' && strchr(line, '=')) tally(agrees(line), line);
     }
 }
@@ -283,15 +291,16 @@ static void nulls(void) {
 }
 
 int main(int count, char **words) {
-    if (count != 6) return fprintf(stderr, "usage: replay CALLS STEPS WRONG_CALLS WALKS WRONG_WALKS\n"), 2;
+    if (count != 7) return fprintf(stderr, "usage: replay CALLS STEPS MODES WRONG_CALLS WALKS WRONG_WALKS\n"), 2;
     lookups(), nulls();
     int well = report("lookups, and what takes no class by null pointers");
     well &= replay(words[1], replay_calls, "calls", 0);
     well &= replay(words[2], replay_calls, "calls with allowances around their counts", 0);
-    well &= replay(words[3], replay_calls, "calls", 1);
+    well &= replay(words[3], replay_calls, "calls in both modes", 0);
+    well &= replay(words[4], replay_calls, "calls", 1);
     well &= replay(words[1], replay_nulls, "calls by null pointers", 0);
-    well &= replay(words[4], replay_walks, "walks", 0);
-    well &= replay(words[5], replay_walks, "walks", 1);
+    well &= replay(words[5], replay_walks, "walks", 0);
+    well &= replay(words[6], replay_walks, "walks", 1);
     free(tables.at), free(strings.at), free(blob.at);
     return well ? 0 : 1;
 }

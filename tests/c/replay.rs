@@ -1,7 +1,7 @@
-//! The same calls as a Rust program links them, against the recorded answers of crates/call_vectors/data/cases and steps, and against those
-//! of the file `wrong` beside them, which are wrong on purpose, so that each must differ:
+//! The same calls as a Rust program links them, against the recorded answers of crates/call_vectors/data/cases, steps and modes, and against
+//! those of the file `wrong` beside them, which are wrong on purpose, so that each must differ:
 //!
-//!     replay CALLS STEPS WRONG_CALLS
+//!     replay CALLS STEPS MODES WRONG_CALLS
 //!
 //! A name is asked for in a buffer of its length and in one that is a byte longer. A call that counts nothing and has an allowance is not
 //! asked: its question alone takes one, which the C program asks. Exit status: 0 all is as it should be, 1 something is not.
@@ -15,8 +15,12 @@ struct DnReply {
     reason: usize,
 }
 
-/// The options that say nothing.
-const BASE: u32 = 0;
+/// What is lent to a call, and the bits that say how it is opened.
+#[derive(Default)]
+struct Opened {
+    streams: [Vec<u8>; 3],
+    options: u32,
+}
 
 macro_rules! calls {
     ($($name:ident($($number:ident),*) $(within $steps:ident)? $(in $buf:ident)?;)*) => {
@@ -25,11 +29,12 @@ macro_rules! calls {
                 options: u32 $(, $steps: *mut u64)? $(, $number: u32)* $(, $buf: *mut u8, buf_len: usize)?) -> DnReply;)*
         }
         /// The call of that name, with what is left of an allowance if it takes one, and a buffer if it takes one.
-        fn ask(call: &str, s: &[Vec<u8>; 3], n: &[u32], left: &mut u64, buf: &mut [u8]) -> Option<DnReply> {
+        fn ask(call: &str, opened: &Opened, n: &[u32], left: &mut u64, buf: &mut [u8]) -> Option<DnReply> {
+            let s = &opened.streams;
             let mut rest = n.iter().copied();
             $(if stringify!($name).strip_prefix("dn_") == Some(call) {
                 // SAFETY: each slice is passed as its pointer and its length, and the number and the buffer are lent to this call alone
-                return Some(unsafe { $name(s[0].as_ptr(), s[0].len(), s[1].as_ptr(), s[1].len(), s[2].as_ptr(), s[2].len(), BASE
+                return Some(unsafe { $name(s[0].as_ptr(), s[0].len(), s[1].as_ptr(), s[1].len(), s[2].as_ptr(), s[2].len(), opened.options
                     $(, { let $steps: *mut u64 = left; $steps })? $(, { let $number = rest.next().unwrap_or(0); $number })*
                     $(, { let $buf = buf.as_mut_ptr(); $buf }, buf.len())?) });
             })*
@@ -84,7 +89,7 @@ fn numbers_in<'a>(words: impl Iterator<Item = &'a str>) -> (Vec<u32>, Option<(u6
 }
 
 /// Nothing for a line that is not asked here.
-fn agrees(line: &str, streams: &[Vec<u8>; 3]) -> Option<bool> {
+fn agrees(line: &str, opened: &Opened) -> Option<bool> {
     let (asked, answer) = line.split_once('=').unwrap();
     let (mut words, answer) = (asked.split_whitespace(), answer.trim());
     let call = words.next().unwrap();
@@ -96,7 +101,7 @@ fn agrees(line: &str, streams: &[Vec<u8>; 3]) -> Option<bool> {
     let (refusal, reason) = refusal_in(answer);
     let agrees_in = |buf: &mut [u8], value: usize| {
         let mut steps = allowance;
-        ask(call, streams, &numbers, &mut steps, buf) == Some(DnReply { value, refusal, reason }) && steps == left
+        ask(call, opened, &numbers, &mut steps, buf) == Some(DnReply { value, refusal, reason }) && steps == left
     };
     if !call.ends_with("_name") && !call.ends_with("_type") {
         return Some(agrees_in(&mut [], if refusal == 0 { answer.parse().unwrap() } else { 0 }));
@@ -113,14 +118,22 @@ fn agrees(line: &str, streams: &[Vec<u8>; 3]) -> Option<bool> {
 /// Whether there are answers and all are as they should be.
 fn replay(path: &str, wrong: bool) -> bool {
     let text = fs::read_to_string(path).expect("the file can be read");
-    let mut streams: [Vec<u8>; 3] = Default::default();
+    let mut opened = Opened::default();
     let (mut agreed, mut differed) = (0, 0);
-    for line in text.lines().filter(|line| !line.starts_with(['#', '@']) && !line.is_empty()) {
-        if let Some(at) = ["tables ", "strings ", "blob "].iter().position(|key| line.starts_with(key)) {
-            streams[at] = from_hex(line.split_once(' ').unwrap().1);
+    for line in text.lines().filter(|line| !line.starts_with('#') && !line.is_empty()) {
+        if line.starts_with('@') {
+            opened.options = 0;
             continue;
         }
-        let Some(agrees) = agrees(line, &streams) else { continue };
+        if let Some(bits) = line.strip_prefix("options ") {
+            opened.options = bits.parse().unwrap();
+            continue;
+        }
+        if let Some(at) = ["tables ", "strings ", "blob "].iter().position(|key| line.starts_with(key)) {
+            opened.streams[at] = from_hex(line.split_once(' ').unwrap().1);
+            continue;
+        }
+        let Some(agrees) = agrees(line, &opened) else { continue };
         *(if agrees { &mut agreed } else { &mut differed }) += 1;
         if agrees == wrong {
             println!("FAIL  {line}");
@@ -132,7 +145,7 @@ fn replay(path: &str, wrong: bool) -> bool {
 
 fn main() {
     let paths: Vec<String> = env::args().skip(1).collect();
-    let [calls, steps, wrong_calls] = &paths[..] else { panic!("usage: replay CALLS STEPS WRONG_CALLS") };
-    let well = replay(calls, false) & replay(steps, false) & replay(wrong_calls, true);
+    let [calls, steps, modes, wrong_calls] = &paths[..] else { panic!("usage: replay CALLS STEPS MODES WRONG_CALLS") };
+    let well = replay(calls, false) & replay(steps, false) & replay(modes, false) & replay(wrong_calls, true);
     process::exit(if well { 0 } else { 1 });
 }

@@ -1,9 +1,12 @@
-/* How many steps the calls of include/dotnet_tables.h take (2026-06), for many streams in one run; tests/steps asks it.
+/* How many steps the calls of include/dotnet_tables.h take (2026-06), for many streams in one run; tests/steps asks it:
+
+     steps [--taker]
 
    Standard input holds for each case a 4-byte length and so many bytes: a ceiling, 8 bytes, the lengths of the three streams, 4 bytes each,
    and the streams; all numbers are little-endian. Standard output gets for each a 4-byte length and the text that the oracle prints by
    --steps: `class=C steps=N` for what base_count takes of each class, `method=C,M steps=N` for what param_count takes of each method, and
-   `!` in place of a number above the ceiling; or `refused=N` alone.
+   `!` in place of a number above the ceiling; or `refused=N` alone. With --taker the streams are opened with DN_TAKER (2026-09), as
+   tests/modes asks it.
 
    Where the number is not above the ceiling, every call of that class or method, by its name and by its question, is asked with other
    allowances: one less, just as many, a few more, any number below, the most that there is. A line `wrong: ..` follows for each reply, left
@@ -238,8 +241,8 @@ static uint8_t *own(const uint8_t *at, size_t n) {
     return copy ? memcpy(copy, at, n) : (exit(2), copy);
 }
 
-int main(void) {
-    uint32_t n, lengths[3];
+int main(int argc, char **argv) {
+    uint32_t n, lengths[3], options = argc == 2 && !strcmp(argv[1], "--taker") ? DN_TAKER : 0;
     uint64_t ceiling;
     while (fread(&n, 4, 1, stdin) == 1) {
         uint8_t *data = malloc(n + 1ul);
@@ -248,7 +251,7 @@ int main(void) {
         if (20ul + lengths[0] + lengths[1] + lengths[2] != n) return 2;
         uint8_t *tables = own(data + 20, lengths[0]), *strings = own(data + 20 + lengths[0], lengths[1]);
         uint8_t *blob = own(data + 20 + lengths[0] + lengths[1], lengths[2]);
-        streams = (dn_streams){ tables, lengths[0], strings, lengths[1], blob, lengths[2], 0 };
+        streams = (dn_streams){ tables, lengths[0], strings, lengths[1], blob, lengths[2], options };
         used = 0, wrongs = 0;
         of_streams(ceiling);
         uint32_t size = (uint32_t)used;

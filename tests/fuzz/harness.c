@@ -4,9 +4,10 @@
                                    and 0xFF: one reply, and the same bytes afterwards, also by its question; and the type-name section, with
                                    as many bytes and as many offsets
      harness inputs SEEDS N SEED   N inputs, made from the seeds by mutation or from nothing: every call, with numbers inside and outside,
-                                   by its name and by its question, with any options and any allowance of steps, of which both leave the
-                                   same; questions that there are not; pieces of the listing from anywhere, by lent words of any number and content; and the type-name section, in buffers of
-                                   any lengths and of four fillings, beside the one that the names of the classes make
+                                   by its name and by its question, in either mode of opening with any other options, and with any
+                                   allowance of steps, of which both leave the same; questions that there are not; pieces of the listing from
+                                   anywhere, by lent words of any number and content; and the type-name section, in buffers of any lengths
+                                   and of four fillings, beside the one that the names of the classes make
 
    SEEDS is a file of inputs of the listing program, each after a 4-byte little-endian length. Every stream ends where memory ends, the
    buffer and the lent words or offsets too, and before these two stand bytes that must stay. Exit status: 0 all well, 1 something is wrong,
@@ -51,6 +52,7 @@ static struct region streams[3], lent, lent_words;
 static uint8_t copy[3][MOST];   /* of the streams, to see that they are only read */
 static size_t lengths[3];
 static struct input input;
+static uint32_t mode; /* of opening, for all calls on an input, so that its replies can be compared: 0 or DN_TAKER */
 
 /* Places the three streams, from `copy`. */
 static void place(void) {
@@ -59,7 +61,7 @@ static void place(void) {
         *to[i] = (struct bytes){ streams[i].end - lengths[i], lengths[i] };
         memcpy(streams[i].end - lengths[i], copy[i], lengths[i]);
     }
-    input.options = 0;
+    input.options = mode;
 }
 
 static int are_unchanged(void) {
@@ -458,7 +460,11 @@ static int some_rows(int call, int out, uint32_t *rows) {
 /* A number near a count, or any. */
 static uint32_t number_near(uint64_t n) { return below(8) ? (uint32_t)below(n + 2) : below(2) ? 0xFFFFFFFF : (uint32_t)chance(); }
 
-static uint32_t some_options(void) { return (const uint32_t[]){ (uint32_t)chance(), 0xFFFFFFFF, 1u << below(32) }[below(3)]; }
+/* Any bits, in the same mode. */
+static uint32_t some_options(void) {
+    uint32_t bits = (const uint32_t[]){ (uint32_t)chance(), 0xFFFFFFFF, 1u << below(32) }[below(3)];
+    return (bits & ~(uint32_t)DN_TAKER) | mode;
+}
 
 static uint64_t some_allowance(void) { return below(4) ? LISTED : (const uint64_t[]){ 0, below(8), below(100), below(100000) }[below(4)]; }
 
@@ -493,7 +499,7 @@ static void check_call(int call, size_t refusal, int out) {
     if (refusal ? reply.refusal != refusal : is_over ? 0 : inside ? reply.refusal && !may_fail : reply.refusal != DN_NO_SUCH_ROW)
         report("a refusal that does not belong there, or none where one does");
     if (calls[call].question) check_with_junk(call, rows, length, reply);
-    input.options = 0;
+    input.options = mode;
 }
 
 /* The call of a question for a number or for a name; CALLS where there is none. */
@@ -518,7 +524,7 @@ static void check_any_question(size_t refusal) {
     }
     input.options = some_options();
     check_question(question, is_name, rows, length, expected);
-    input.options = 0;
+    input.options = mode;
 }
 
 /* ---- the listing */
@@ -590,7 +596,7 @@ static void check_listing(void) {
     if (!same_piece(piece, again) || memcmp(lent.end - length, seen, length)) report("another piece the second time");
     if (from.place >= PLACES && (piece.used || !piece.done)) report("a place that there is not");
     if (!piece.done) check_line(piece.next, length - piece.used);
-    input.options = 0;
+    input.options = mode;
 }
 
 /* ---- the section, in buffers of any lengths */
@@ -605,7 +611,7 @@ static void check_section(size_t refusal) {
         check_filled(length, places, way, refusal);
         input.options = some_options();
     }
-    input.options = 0;
+    input.options = mode;
 }
 
 /* ---- all of them */
@@ -629,7 +635,7 @@ static void check_walk(size_t refusal) {
         end = table.start + table.size * table.rows;
         if (end > input.tables.length || kind > stop.value) report("a table past the end");
     }
-    input.options = 0;
+    input.options = mode;
 }
 
 static void run_inputs(unsigned long times) {
@@ -637,7 +643,7 @@ static void run_inputs(unsigned long times) {
     make_anything();
     for (left = times; left; left--) {
         if (sigsetjmp(too_long, 1)) { slow++, save_input("slow"); continue; }
-        make_input(), place(), allowance = some_allowance();
+        make_input(), mode = below(2) ? DN_TAKER : 0, place(), allowance = some_allowance();
         dn_reply opened = ask(CLASS_COUNT, (const uint32_t[3]){ 0, 0, 0 }, no_buffer);
         if (opened.refusal > DN_TOO_MANY_ROWS) report("a refusal that opening does not have");
         check_walk(opened.refusal);

@@ -35,9 +35,9 @@ def is_slow(call, numbers, count, allowance):
     return count <= allowance or allowance != steps.CEILING or not (call == "return_type" or call == "base_name" and numbers[-1] == PAST)
 
 
-def lines_of(records, case, is_meant, thorough):
+def lines_of(records, case, is_meant, thorough, options=0):
     """The lines of an input, for calls that are meant."""
-    for call, numbers, answer, count in asked(records, case, records.ask(case), thorough):
+    for call, numbers, answer, count in asked(records, case, records.ask(case), thorough, options):
         if not is_meant(call, count):
             continue
         is_past = answer == NO_ROW and count is not None

@@ -1,7 +1,9 @@
 -- What C asks, as the record answers it: the bits of the options, and the numbers of the questions in include/dotnet_tables.h.
+use mathlib.Core.Bool.{Bool}
 use mathlib.Core.List.{List, [], _∷_}
 use mathlib.Core.Option.{Option, none, some}
-use Prim.Native.Nat.{ℕ}
+use Prim.Native.Nat.{ℕ, _/_, _%_}
+use lib.Dec.{eqb}
 use Rattle.buffers.specs.Texts.{Text}
 use Rattle.buffers.specs.Replies.{refusedBy}
 use Rattle.buffers.specs.declared.Refusal.{Refusal}
@@ -21,9 +23,17 @@ use Rattle.c_questions.specs.declared.NumberAsked.the-variants as number
 use Rattle.c_questions.specs.declared.NameAsked.{NameAsked}
 use Rattle.c_questions.specs.declared.NameAsked.the-variants as name-asked
 
--- The options that a set of bits means. No bit has a meaning yet, and bits without one are ignored.
+-- Whether a set of bits has the bit of that value.
+unfoldable pub hasBit : ℕ → ℕ → Bool
+hasBit bits bit = eqb (bits / bit % 2) 1
+
+-- The bits that have a meaning, DN_ and the option's name.
+abbrev pub takerBit : ℕ
+takerBit = 2
+
+-- The options that a set of bits means: those of the base, and what its bits add. Bits without a meaning are ignored.
 abbrev pub optionsOf : ℕ → Options
-optionsOf bits = base
+optionsOf bits = record { limit = base .limit; security = base .security; taker = hasBit bits takerBit }
 
 -- The calls by the numbers of their questions, DN_ASK_ and the call's name, with the call's arguments in its own order. One series: no
 -- number means both a call for a number and a call for a name.

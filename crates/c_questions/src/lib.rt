@@ -7,8 +7,9 @@ use header::Options;
 use questions::NameQuestion;
 use questions::NumberQuestion;
 ghost use mathlib.Core.Path.{_≡_};
+ghost use Prim.Native.Nat.{_<_};
 ghost use Rattle.header.specs.Stream.{opened};
-ghost use Rattle.c_questions.specs.Asked.{optionsOf, numberAsked, nameAsked, noQuestion, numberMeant, nameMeant};
+ghost use Rattle.c_questions.specs.Asked.{hasBit, optionsOf, numberAsked, nameAsked, noQuestion, numberMeant, nameMeant};
 
 // The call for a number that a question number means, if there is one.
 pub enum NumberAsked {
@@ -22,11 +23,27 @@ pub enum NameAsked {
     NoQuestion,
 }
 
-// The options that a set of bits means. No bit has a meaning yet, and bits without one are ignored.
+// The bits of the options that have a meaning, DN_ and the option's name.
+const TAKER: u32 = 2;
+
+// Whether a set of bits has the bit of that value.
+fn has_bit(bits: u32, bit: u32) -> bool
+    requires { ⌜ 0 < bit ⌝ }
+    ensures { λ r. ⌜ r ≡ hasBit bits bit ⌝ }
+{
+    bits / bit % 2 == 1
+}
+
+// The options that a set of bits means: those of the base, and what its bits add. Bits without a meaning are ignored.
 pub fn options_of(bits: u32) -> Options
     ensures { λ r. ⌜ r ≡ optionsOf bits ⌝ }
 {
-    header::base_options()
+    let base = header::base_options();
+    Options {
+        limit: base.limit,
+        security: base.security,
+        taker: has_bit(bits, TAKER),
+    }
 }
 
 pub fn number_asked(question: u32, a: u32, b: u32) -> NumberAsked

@@ -13,7 +13,7 @@ use case_text::first;
 use case_text::read_decimal;
 use check::same;
 use classes::ClassNumber;
-use header::base_options;
+use header::Options;
 use questions::NameQuestion;
 use questions::NumberQuestion;
 use steps::Charged;
@@ -25,9 +25,10 @@ enum Way {
     Question,
 }
 
-// The numbers of a line: a class; its method, generic parameter or base type; a generic parameter or a parameter of that method; the
-// allowance, and what is to be left of it. Those that a call does not take count for nothing.
+// The options of a block, and the numbers of a line: a class; its method, generic parameter or base type; a generic parameter or a
+// parameter of that method; the allowance, and what is to be left of it. Those that a call does not take count for nothing.
 struct Asked {
+    options: Options,
     class: ClassNumber,
     member: u32,
     part: u32,
@@ -41,10 +42,10 @@ struct Refused {
     reason: usize,
 }
 
-pub fn agrees(line: &[u8], tables: &[u8], strings: &[u8], blob: &[u8]) -> bool {
+pub fn agrees(line: &[u8], tables: &[u8], strings: &[u8], blob: &[u8], options: Options) -> bool {
     let call = first(line);
     let slash = heaps::find_byte(line, 0, b'/');
-    let asked = asked_in(after(line, call.len()), after(line, slash));
+    let asked = asked_in(options, after(line, call.len()), after(line, slash));
     let equals = heaps::find_byte(line, 0, b'=');
     let answer = after(after(line, equals), 0);
     if slash == line.len() {
@@ -78,7 +79,7 @@ fn agrees_so(
 }
 
 // The numbers before the slash, and behind it.
-fn asked_in(numbers: &[u8], allowed: &[u8]) -> Asked {
+fn asked_in(options: Options, numbers: &[u8], allowed: &[u8]) -> Asked {
     let class = first(numbers);
     let after_class = after(numbers, class.len());
     let member = first(after_class);
@@ -87,6 +88,7 @@ fn asked_in(numbers: &[u8], allowed: &[u8]) -> Asked {
     let steps = first(allowed);
     let left = first(after(allowed, steps.len()));
     Asked {
+        options,
         class: ClassNumber(read_u32(class)),
         member: read_u32(member),
         part: read_u32(part),
@@ -165,7 +167,7 @@ fn ask_plain_number(
     blob: &[u8],
     asked: Asked,
 ) -> Reply {
-    let options = base_options();
+    let options = asked.options;
     let class = asked.class;
     let m = asked.member;
     if same(call, b"class_count") {
@@ -196,7 +198,7 @@ fn ask_number_within(
     blob: &[u8],
     asked: Asked,
 ) -> Charged {
-    let options = base_options();
+    let options = asked.options;
     let class = asked.class;
     let steps = asked.steps;
     if same(call, b"base_count") {
@@ -217,16 +219,15 @@ fn ask_number_question(
 ) -> Charged {
     let class = asked.class;
     let m = asked.member;
-    let steps = asked.steps;
     if same(call, b"class_count") {
-        return put_number(tables, strings, blob, steps, NumberQuestion::ClassCount);
+        return put_number(tables, strings, blob, asked, NumberQuestion::ClassCount);
     }
     if same(call, b"class_flags") {
         return put_number(
             tables,
             strings,
             blob,
-            steps,
+            asked,
             NumberQuestion::ClassFlags(class),
         );
     }
@@ -235,7 +236,7 @@ fn ask_number_question(
             tables,
             strings,
             blob,
-            steps,
+            asked,
             NumberQuestion::GenericCount(class),
         );
     }
@@ -244,7 +245,7 @@ fn ask_number_question(
             tables,
             strings,
             blob,
-            steps,
+            asked,
             NumberQuestion::BaseCount(class),
         );
     }
@@ -253,7 +254,7 @@ fn ask_number_question(
             tables,
             strings,
             blob,
-            steps,
+            asked,
             NumberQuestion::MethodCount(class),
         );
     }
@@ -262,20 +263,20 @@ fn ask_number_question(
             tables,
             strings,
             blob,
-            steps,
+            asked,
             NumberQuestion::MethodFlags(class, m),
         );
     }
     if same(call, b"method_generic_count") {
         let count = NumberQuestion::MethodGenericCount(class, m);
-        return put_number(tables, strings, blob, steps, count);
+        return put_number(tables, strings, blob, asked, count);
     }
     if same(call, b"param_count") {
         return put_number(
             tables,
             strings,
             blob,
-            steps,
+            asked,
             NumberQuestion::ParamCount(class, m),
         );
     }
@@ -286,10 +287,10 @@ fn put_number(
     tables: &[u8],
     strings: &[u8],
     blob: &[u8],
-    steps: u64,
+    asked: Asked,
     question: NumberQuestion,
 ) -> Charged {
-    dotnet::ask_number(tables, strings, blob, base_options(), steps, question)
+    dotnet::ask_number(tables, strings, blob, asked.options, asked.steps, question)
 }
 
 fn ask_name(
@@ -316,7 +317,7 @@ fn ask_plain_name(
     asked: Asked,
     buf: &mut [u8],
 ) -> Reply {
-    let options = base_options();
+    let options = asked.options;
     let class = asked.class;
     let m = asked.member;
     let i = asked.part;
@@ -343,7 +344,7 @@ fn ask_name_within(
     asked: Asked,
     buf: &mut [u8],
 ) -> Charged {
-    let options = base_options();
+    let options = asked.options;
     let class = asked.class;
     let steps = asked.steps;
     let m = asked.member;
@@ -373,13 +374,12 @@ fn ask_name_question(
 ) -> Charged {
     let class = asked.class;
     let m = asked.member;
-    let steps = asked.steps;
     if same(call, b"class_name") {
         return put_name(
             tables,
             strings,
             blob,
-            steps,
+            asked,
             NameQuestion::ClassName(class),
             buf,
         );
@@ -389,7 +389,7 @@ fn ask_name_question(
             tables,
             strings,
             blob,
-            steps,
+            asked,
             NameQuestion::GenericName(class, m),
             buf,
         );
@@ -399,7 +399,7 @@ fn ask_name_question(
             tables,
             strings,
             blob,
-            steps,
+            asked,
             NameQuestion::BaseName(class, m),
             buf,
         );
@@ -409,7 +409,7 @@ fn ask_name_question(
             tables,
             strings,
             blob,
-            steps,
+            asked,
             NameQuestion::MethodName(class, m),
             buf,
         );
@@ -419,7 +419,7 @@ fn ask_name_question(
             tables,
             strings,
             blob,
-            steps,
+            asked,
             NameQuestion::ReturnType(class, m),
             buf,
         );
@@ -439,17 +439,16 @@ fn ask_part_question(
     let class = asked.class;
     let m = asked.member;
     let i = asked.part;
-    let steps = asked.steps;
     if same(call, b"method_generic_name") {
         let name = NameQuestion::MethodGenericName(class, m, i);
-        return put_name(tables, strings, blob, steps, name, buf);
+        return put_name(tables, strings, blob, asked, name, buf);
     }
     if same(call, b"param_type") {
         return put_name(
             tables,
             strings,
             blob,
-            steps,
+            asked,
             NameQuestion::ParamType(class, m, i),
             buf,
         );
@@ -459,7 +458,7 @@ fn ask_part_question(
             tables,
             strings,
             blob,
-            steps,
+            asked,
             NameQuestion::ParamName(class, m, i),
             buf,
         );
@@ -471,11 +470,12 @@ fn put_name(
     tables: &[u8],
     strings: &[u8],
     blob: &[u8],
-    steps: u64,
+    asked: Asked,
     question: NameQuestion,
     buf: &mut [u8],
 ) -> Charged {
-    dotnet::ask_name(tables, strings, blob, base_options(), steps, question, buf)
+    let options = asked.options;
+    dotnet::ask_name(tables, strings, blob, options, asked.steps, question, buf)
 }
 
 fn not_refused() -> Refused {

@@ -1,10 +1,14 @@
-// Replays recorded answers of the public calls from the files `cases` and `steps`: data/cases holds what tests/oracle/record_calls writes,
-// data/steps what it writes of allowances; then, in the same way, answers that are wrong on purpose from the file `wrong`, so that a
-// program that finds no difference is found out. What stands before the first `@` is passed over; each `@` begins a block: a line with its
-// name, the lines `tables HEX`, `strings HEX` and `blob HEX`, with `-` for an empty stream, then a line for each answer (see answers.rt).
-// Lines that are empty or begin with `#` are passed over. Each answer that differs is written as `FAIL` and its line; each block as `ok` or
-// `FAIL`, its name and its answers.
+// Replays recorded answers of the public calls from the files `cases`, `steps` and `modes`: data/cases holds what tests/oracle/record_calls
+// writes, data/steps what it writes of allowances, data/modes of both modes of opening; then, in the same way, answers that are wrong on
+// purpose from the file `wrong`, so that a program that finds no difference is found out. What stands before the first `@` is passed over;
+// each `@` begins a block: a line with its name, the lines `tables HEX`, `strings HEX` and `blob HEX`, with `-` for an empty stream, if its
+// options are not 0 a line `options N`, the bits that C takes, then a line for each answer (see answers.rt). Lines that are empty or begin
+// with `#` are passed over. Each answer that differs is written as `FAIL` and its line; each block as `ok` or `FAIL`, its name and its
+// answers.
 mod answers;
+
+use check::same;
+use header::Options;
 
 // What became of a line.
 enum Outcome {
@@ -22,14 +26,32 @@ fn write(text: &[u8]) {
     io::write_all(1, text);
 }
 
-fn run_line(line: &[u8], tables: &[u8], strings: &[u8], blob: &[u8]) -> Outcome {
+fn are_options(line: &[u8]) -> bool {
+    same(case_text::first(line), b"options")
+}
+
+// The options of a block, from what stands behind its streams.
+fn options_in(answers: &[u8]) -> Options {
+    let line = case_text::line(answers);
+    if !are_options(line) {
+        return header::base_options();
+    }
+    let key = case_text::first(line);
+    let bits = case_text::read_decimal(case_text::after(line, key.len()));
+    c_questions::options_of(case_text::low_bits(bits))
+}
+
+fn run_line(line: &[u8], tables: &[u8], strings: &[u8], blob: &[u8], options: Options) -> Outcome {
     if line.len() == 0 {
         return Outcome::NoAnswer;
     }
     if line[0] == b'#' {
         return Outcome::NoAnswer;
     }
-    if answers::agrees(line, tables, strings, blob) {
+    if are_options(line) {
+        return Outcome::NoAnswer;
+    }
+    if answers::agrees(line, tables, strings, blob, options) {
         return Outcome::Agreed;
     }
     write(b"FAIL  ");
@@ -38,7 +60,7 @@ fn run_line(line: &[u8], tables: &[u8], strings: &[u8], blob: &[u8]) -> Outcome 
     Outcome::Differed
 }
 
-fn run_answers(text: &[u8], tables: &[u8], strings: &[u8], blob: &[u8]) -> Tally {
+fn run_answers(text: &[u8], tables: &[u8], strings: &[u8], blob: &[u8], options: Options) -> Tally {
     let mut agreed: u64 = 0;
     let mut differed: u64 = 0;
     let mut at = 0;
@@ -46,7 +68,7 @@ fn run_answers(text: &[u8], tables: &[u8], strings: &[u8], blob: &[u8]) -> Tally
         let end = heaps::find_byte(text, at, b'\n');
         let line = numbers::cut(text, at, end - at);
         at = end + 1;
-        match run_line(line, tables, strings, blob) {
+        match run_line(line, tables, strings, blob, options) {
             Outcome::Agreed => {
                 agreed += 1;
             }
@@ -91,6 +113,7 @@ fn run_streams(line1: &[u8], line2: &[u8], line3: &[u8], answers: &[u8]) -> Tall
         numbers::cut(&tables, 0, t),
         numbers::cut(&strings, 0, s),
         numbers::cut(&blob, 0, b),
+        options_in(answers),
     )
 }
 
@@ -137,5 +160,6 @@ fn run_file(path: &[u8]) {
 fn main() {
     run_file(b"cases");
     run_file(b"steps");
+    run_file(b"modes");
     run_file(b"wrong");
 }

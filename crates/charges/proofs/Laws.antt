@@ -1,6 +1,6 @@
 -- An answer within an allowance, by what was counted and what it came to. Assumes nothing.
 use mathlib.Core.Path.{_≡_, refl, sym, ap, subst, _∙_}
-use mathlib.Core.Bool.{true, false}
+use mathlib.Core.Bool.{Bool, true, false, _||_}
 use mathlib.Core.List.{List, []}
 use Prim.Native.Nat.{ℕ, _+_, _-_, _*_, _/_, _≤_, _<_}
 use native.Mathlib.Nat.{le-trans, mul-le-mul-left, mul-le-mul-right, div-mul-le-self, le-div-iff-mul-le}
@@ -15,14 +15,14 @@ use Rattle.buffers.specs.declared.Reply.the-variants.{No}
 use Rattle.heaps.specs.Lookups.{Name}
 use Rattle.record.specs.View.{View}
 use Rattle.record.specs.Names.{env, classGenerics, baseSteps}
-use Rattle.record.specs.Methods.{leftAfter, methodSteps}
+use Rattle.record.specs.Methods.{leftAfter, stepsIn}
 use Rattle.record.specs.Answers.{_⟫_, theClass, theMethod, Numbered}
 use Rattle.record.specs.Answers.{NameCall, ClassName, GenericName, BaseName, MethodName, MethodGenericName, ReturnType, ParameterType, ParameterName}
 use Rattle.rows.specs.Columns as columns
-use Rattle.rows.specs.Layout.{Laid, Ascends, rowsAt, cell, viewIn}
+use Rattle.rows.specs.Layout.{Laid, rowsAt, isMarked, viewIn}
 use Rattle.passing.specs.Passing.{SpecsWithin}
 use Rattle.bases.proofs.Within.{bases-within}
-use Rattle.method_signatures.proofs.Within.{methods-within}
+use Rattle.method_signatures.proofs.Within.{steps-within}
 use Rattle.charges.specs.Within.{AllFit}
 use Rattle.record.specs.Allowance.{baseWork, methodWork, countOf, cost, charge, NumberedCharged, NamedCharged, ceiling, isOver}
 use Rattle.record.proofs.Allowance.{cost-replied, charge-spent, charge-fits}
@@ -97,7 +97,8 @@ counted-most : {A : Type 0} (a : Answer A) (n : ℕ) {most : ℕ} → n ≤ most
 counted-most (refused w) n h = omega arith
 counted-most (value x) n h = h
 
-module _ {t l : List ℕ} (laid : Laid t l) (strings heap : List ℕ) (up : Ascends (cell t l columns.methodList) (rowsAt l columns.methodList))
+module _ {t l : List ℕ} (laid : Laid t l) (strings heap : List ℕ)
+    {once : Bool} (is-once : once ≡ (viewIn t l strings heap .taker || isMarked l columns.methodList)) (yes : once ≡ true)
     {types most : ℕ} (fits : (most + 1) * types ≤ ceiling) (bytes : length heap ≤ types) (rows : rowsAt l columns.implClass + 1 ≤ types)
     (specs : (g h : List Name) → SpecsWithin (env (viewIn t l strings heap) g h) most) where
   abbrev v : View
@@ -115,9 +116,9 @@ module _ {t l : List ℕ} (laid : Laid t l) (strings heap : List ℕ) (up : Asce
   method-fits : (c m : ℕ) → isOver (methodWork v c m) ≡ false
   unfolding methodWork
   method-fits c m =
-      let few = methods-within laid strings heap up (leftAfter v c + m) most specs in
+      let few = steps-within laid strings heap is-once yes c (leftAfter v c + m) most specs in
       let enough = le-trans (mul-le-mul-left (most + 1) bytes) fits in
-      few-fit (methodWork v c m) (counted-most (theMethod v c m) (methodSteps v (leftAfter v c + m)) (le-trans few enough))
+      few-fit (methodWork v c m) (counted-most (theMethod v c m) (stepsIn v c (leftAfter v c + m)) (le-trans few enough))
 
   pub all-fit : AllFit v
   all-fit (ClassName c) = nothing-over

@@ -27,7 +27,7 @@ const CEILING: u64 = 1_000_000;
 // What is left after 11.
 const NOTHING: u64 = 0;
 
-// What all readings of the signature of method m of a class take.
+// What the readings of the signature of method m of a class take.
 fn tally_method(
     tables: &[u8],
     strings: &[u8],
@@ -175,7 +175,7 @@ fn larger(a: usize, b: usize) -> u64
     a as u64
 }
 
-// Whether every name of a stream is surely within the ceiling. At most one class reads a method, whose signature has no more types than
+// Whether every name of a stream is surely within the ceiling. Where one class at most reads a method, its signature has no more types than
 // the blob heap has bytes; and a class has no more base types than InterfaceImpl has rows, and the extended one. So it is where each of as
 // many types may take its own step and all those of a TypeSpec row.
 pub fn all_within(tables: &[u8], blob: &[u8], layout: &[u32]) -> bool
@@ -183,7 +183,7 @@ pub fn all_within(tables: &[u8], blob: &[u8], layout: &[u32]) -> bool
     ensures { λ r. let v = viewIn (now (tables .entry)) (now (layout .entry)) in
         ⌜ ((strings : List ℕ) → r ≡ true → AllFit (v strings (now (blob .entry)))) ⌝ }
 {
-    if !rows::is_marked(layout, columns::METHOD_LIST) {
+    if !method_signatures::is_read_once(layout) {
         return false;
     }
     let rows = rows::count_rows(layout, columns::IMPL_CLASS);

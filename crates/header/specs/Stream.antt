@@ -16,9 +16,10 @@ use Rattle.header.specs.declared.Opened.{Opened}
 use Rattle.header.specs.declared.Opened.the-variants.{Refused, Ready}
 use Rattle.header.specs.declared.Header.{Header}
 
--- The options of the base: at most 15,000 rows to a table, and DeclSecurity does not count for HasCustomAttribute, as in the Rust.
+-- The options of the base: at most 15,000 rows to a table, DeclSecurity does not count for HasCustomAttribute, and every class whose
+-- range has a method reads its signature, as in the Rust.
 abbrev pub base : Options
-base = record { limit = 15_000; security = false }
+base = record { limit = 15_000; security = false; taker = false }
 
 -- The byte HeapSizes, and the mask Valid: a bit for each kind of table that is present.
 abbrev pub heapSizes : List ℕ → ℕ

@@ -7,11 +7,12 @@ ghost use lib.ListN.{length};
 ghost use Rattle.numbers.specs.Bits.{bitAt, onesBelow};
 ghost use Rattle.header.specs.Stream.{base, valid, countsEnd, refusedHeader, opened, CountsRead};
 
-// How a stream is opened: the most rows that a table may have, and whether DeclSecurity counts for HasCustomAttribute, as in the
-// standard.
+// How a stream is opened: the most rows that a table may have, whether DeclSecurity counts for HasCustomAttribute, as in the standard,
+// and whether the class that takes a method is the only one to read its signature.
 pub struct Options {
     pub limit: u32,
     pub security: bool,
+    pub taker: bool,
 }
 
 pub enum Opened {
@@ -39,6 +40,7 @@ pub fn base_options() -> Options
     Options {
         limit: 15_000,
         security: false,
+        taker: false,
     }
 }
 

@@ -27,7 +27,7 @@ use Rattle.record.specs.Types.{Env, unless, counted, methodStart, type}
 use Rattle.record.specs.View.{View, viewOf, view, sideRow}
 use Rattle.record.specs.Columns.{owner, genericName, implClass, implInterface, extends, methodSignature}
 use Rattle.record.specs.Names.{rowsIn, sizesOf, classes, classRow, methodRow, classIndex, numberIn, typeNameIn, baseIndices, baseTypes, levels}
-use Rattle.record.specs.Methods.{Signature, tries, signature, signatureBlob, reading, readBy, readers, signatureOf, leftAfter, methodLists}
+use Rattle.record.specs.Methods.{Signature, tries, signature, signatureBlob, reading, readBy, readers, signatureOf, signatureIn, leftAfter, methodLists}
 use Rattle.record.specs.Record.{parametersFrom, method, class, classRecord}
 use Rattle.record.proofs.Extents.{kept-le}
 use Rattle.record.proofs.Read.{left-le}
@@ -120,9 +120,13 @@ parameters-small : (v : View) (m : ℕ) (g : Option Signature) → Of SmallSigna
 parameters-small v m none h = omega arith
 parameters-small v m (some g) h = omega (arith, parameters-length v m 0 (g .parameters), h)
 
-method-parameters : (v : View) (m : ℕ) → Small (length (method v m .parameters))
-unfolding method signatureOf
-method-parameters v m = parameters-small v m (signatureOf v m) (readings-small v m (readers v m))
+in-mode-small : (v : View) (c m : ℕ) → Of SmallSignature (signatureIn v c m)
+unfolding signatureIn signatureOf
+in-mode-small v c m = pick (Of SmallSignature) (v .taker) (λ _. read-small v m c) (λ _. readings-small v m (readers v m))
+
+method-parameters : (v : View) (c m : ℕ) → Small (length (method v c m .parameters))
+unfolding method
+method-parameters v c m = parameters-small v m (signatureIn v c m) (in-mode-small v c m)
 
 -- ---- At most 15,000 rows
 
@@ -185,9 +189,9 @@ module _ (t strings heap : List ℕ) where
   unfolding viewOf
   rows-in k h = rows-few t k h
 
-  few-method : (m : ℕ) → FewInMethod (method v m)
+  few-method : (c m : ℕ) → FewInMethod (method v c m)
   unfolding method
-  few-method m = record { generics = omega (arith, generics-few (2 * (m + 1) + 1)); parameters = omega (arith, method-parameters v m) }
+  few-method c m = record { generics = omega (arith, generics-few (2 * (m + 1) + 1)); parameters = omega (arith, method-parameters v c m) }
 
   bases-few : (c : ℕ) → length (baseTypes v c) ≤ 15001
   unfolding baseTypes baseIndices
@@ -207,8 +211,8 @@ module _ (t strings heap : List ℕ) where
   few-class c = record {
     generics = omega (arith, generics-few (2 * classIndex c));
     bases = omega (arith, bases-few c);
-    methods = omega (arith, left-few (c + 1), tabulate-length (method v) (leftAfter v c) (leftAfter v (c + 1) - leftAfter v c));
-    each = tabulated FewInMethod (method v) (leftAfter v c) (leftAfter v (c + 1) - leftAfter v c) few-method;
+    methods = omega (arith, left-few (c + 1), tabulate-length (method v c) (leftAfter v c) (leftAfter v (c + 1) - leftAfter v c));
+    each = tabulated FewInMethod (method v c) (leftAfter v c) (leftAfter v (c + 1) - leftAfter v c) (few-method c);
   }
 
   classes-few : classes v ≤ 15000

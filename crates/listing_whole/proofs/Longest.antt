@@ -175,15 +175,15 @@ module _ (t strings heap : List ℕ) (bytes : Bytes t) where
       (λ _. pick (NarrowIn k j) (ltb i (keptRows base (opened base t) (length t) k))
       (λ _. le-fits (part t start (e .size)) _ _ _ refl (bytes-part t start (e .size) bytes) h) (λ _. omega arith))
 
-  method-narrow : (m : ℕ) → NarrowMethod (method v m)
+  method-narrow : (c m : ℕ) → NarrowMethod (method v c m)
   unfolding method tables
-  method-narrow m = column-narrow methodDef 2 m (omega arith)
+  method-narrow c m = column-narrow methodDef 2 m (omega arith)
 
   class-narrow : (c : ℕ) → NarrowClass (class v c)
   unfolding class tables
   class-narrow c = record {
     flags = column-narrow typeDef 0 (c + 1) (omega arith);
-    each = tabulated NarrowMethod (method v) (leftAfter v c) (leftAfter v (c + 1) - leftAfter v c) method-narrow;
+    each = tabulated NarrowMethod (method v c) (leftAfter v c) (leftAfter v (c + 1) - leftAfter v c) (method-narrow c);
   }
 
   classes-are : Each (λ (l : List Class). l ≡ classRecord v) (theClasses v)

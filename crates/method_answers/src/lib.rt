@@ -159,7 +159,7 @@ pub fn tell_return_type_of(
 ) -> Typed
     requires { ⌜ Laid (now tables) (now layout) ⌝ }
     ensures { λ r. let v = viewIn (now (tables .entry)) (now (layout .entry)) (now (strings .entry)) (now (blob .entry)) in
-        ⌜ ((c m : ℕ) → MethodRowIs v c m row → ToldIs (returnType v c m) (now (buf .entry)) at (now (buf .exit)) (r .told)) ×
+        ⌜ ((m : ℕ) → MethodRowIs v (taker .0) m row → ToldIs (returnType v (taker .0) m) (now (buf .entry)) at (now (buf .exit)) (r .told)) ×
         KnowsSignature v (now (blob .entry)) (r .signature) ⌝ }
 {
     match row_inside(layout, row) {
@@ -194,17 +194,13 @@ pub fn count_params_of(
 ) -> Reply
     requires { ⌜ Laid (now tables) (now layout) ⌝ }
     ensures { λ r. let v = viewIn (now (tables .entry)) (now (layout .entry)) (now (strings .entry)) (now (blob .entry)) in
-        ⌜ ((c m : ℕ) → MethodRowIs v c m row → Numbered (parameterCount v c m) r) ⌝ }
+        ⌜ ((m : ℕ) → MethodRowIs v (taker .0) m row → Numbered (parameterCount v (taker .0) m) r) ⌝ }
 {
     match row_inside(layout, row) {
-        MethodRow::Row(i) => Reply::Is(method_signatures::count_params(
-            tables,
-            strings,
-            blob,
-            layout,
-            taker,
-            i,
-        )),
+        MethodRow::Row(i) => {
+            let count = method_signatures::count_params(tables, strings, blob, layout, taker, i);
+            Reply::Is(count)
+        }
         MethodRow::NoRow => Reply::No(Refusal::NoSuchRow),
     }
 }
@@ -225,7 +221,7 @@ pub fn tell_param_type_of(
     requires { ⌜ Laid (now tables) (now layout) ⌝ }
     requires { ⌜ KnowsSignature (viewIn (now tables) (now layout) (now strings) (now blob)) (now blob) known ⌝ }
     ensures { λ r. let v = viewIn (now (tables .entry)) (now (layout .entry)) (now (strings .entry)) (now (blob .entry)) in
-        ⌜ ((c m : ℕ) → MethodRowIs v c m row → ToldIs (parameterType v c m p) (now (buf .entry)) at (now (buf .exit)) (r .told)) ×
+        ⌜ ((m : ℕ) → MethodRowIs v (taker .0) m row → ToldIs (parameterType v (taker .0) m p) (now (buf .entry)) at (now (buf .exit)) (r .told)) ×
         KnowsSignature v (now (blob .entry)) (r .signature) ⌝ }
 {
     match row_inside(layout, row) {
@@ -264,7 +260,7 @@ pub fn tell_param_name_of(
     requires { ⌜ Laid (now tables) (now layout) ⌝ }
     requires { ⌜ KnowsSignature (viewIn (now tables) (now layout) (now strings) (now blob)) (now blob) known ⌝ }
     ensures { λ r. let v = viewIn (now (tables .entry)) (now (layout .entry)) (now (strings .entry)) (now (blob .entry)) in
-        ⌜ ((c m : ℕ) → MethodRowIs v c m row → ToldIs (parameterName v c m p) (now (buf .entry)) at (now (buf .exit)) (r .told)) ×
+        ⌜ ((m : ℕ) → MethodRowIs v (taker .0) m row → ToldIs (parameterName v (taker .0) m p) (now (buf .entry)) at (now (buf .exit)) (r .told)) ×
         KnowsSignature v (now (blob .entry)) (r .signature) ⌝ }
 {
     match row_inside(layout, row) {
@@ -287,7 +283,7 @@ pub fn tell_param_name_of(
     }
 }
 
-// What all readings of a method's signature take of the steps: nothing where there is no such method.
+// What the readings of a method's signature take of the steps: nothing where there is no such method.
 pub fn pass_readings_of(
     tables: &[u8],
     strings: &[u8],
@@ -299,7 +295,7 @@ pub fn pass_readings_of(
 ) -> Steps
     requires { ⌜ Laid (now tables) (now layout) ⌝ }
     ensures { λ r. let v = viewIn (now (tables .entry)) (now (layout .entry)) (now (strings .entry)) (now (blob .entry)) in
-        ⌜ ((c m : ℕ) → MethodRowIs v c m row → Takes (countOf (methodWork v c m)) steps r) ⌝ }
+        ⌜ ((m : ℕ) → MethodRowIs v (taker .0) m row → Takes (countOf (methodWork v (taker .0) m)) steps r) ⌝ }
 {
     match row_inside(layout, row) {
         MethodRow::Row(i) => {
@@ -309,7 +305,7 @@ pub fn pass_readings_of(
     }
 }
 
-// Whether so many steps surely suffice for all readings of a method's signature.
+// Whether so many steps surely suffice for the readings of a method's signature.
 pub fn surely_fits_of(
     tables: &[u8],
     blob: &[u8],

@@ -18,8 +18,9 @@ use Rattle.buffers.specs.declared.Told.{Told}
 use Rattle.buffers.specs.declared.Told.the-variants.{Name, Missing, NoRow}
 use Rattle.buffers.proofs.Writing.{kept-same}
 use Rattle.buffers.proofs.Telling.{told-same}
+use Rattle.classes.specs.declared.ClassNumber.{ClassNumber}
 use Rattle.record.specs.View.{View}
-use Rattle.record.specs.Methods.{Signature as Found, signatureOf, parameterName}
+use Rattle.record.specs.Methods.{Signature as Found, signatureIn, parameterName}
 use Rattle.record.specs.Record.{Parameter, parametersFrom, method}
 use Rattle.record.specs.Answers.{_⟫_, item}
 use Rattle.rendering.specs.Rendered.{Rendered}
@@ -27,7 +28,7 @@ use Rattle.rendering.specs.declared.Rendering.{Rendering}
 use Rattle.rendering.specs.declared.Rendering.the-variants.{Done, Failed}
 use Rattle.rendering.proofs.Laws.{rendered-done, rendered-failed}
 use Rattle.method_signatures.specs.Signatures.{typeBy, typesFrom, behind}
-use Rattle.method_signatures.specs.Known.{typesOf, Reads, KnowsSignature, readMore}
+use Rattle.method_signatures.specs.Known.{typesOf, Reads, KnowsSignature, About, readMore}
 use Rattle.method_signatures.specs.declared.Signature.{Signature}
 use Rattle.method_signatures.proofs.Laws.{types-length}
 use Rattle.method_signatures.proofs.Values.{Made, parameter-some, parameter-gone}
@@ -93,27 +94,27 @@ element-past (x ∷ l) (suc p) h = element-past l p (omega arith)
 
 -- ---- What is known of a method
 
-module _ (v : View) (heap : List ℕ) (m : ℕ) where
-  types-read : {s : Found} → signatureOf v m ≡ some s → typesOf v m ≡ s .parameters
+module _ (v : View) (heap : List ℕ) (c m : ℕ) where
+  types-read : {s : Found} → signatureIn v c m ≡ some s → typesOf v c m ≡ s .parameters
   unfolding typesOf
   types-read e = rw e
 
-  types-unread : signatureOf v m ≡ none → typesOf v m ≡ []
+  types-unread : signatureIn v c m ≡ none → typesOf v c m ≡ []
   unfolding typesOf
   types-unread e = rw e
 
-  parameters-are : method v m .parameters ≡ parametersFrom v m 0 (typesOf v m)
+  parameters-are : method v c m .parameters ≡ parametersFrom v m 0 (typesOf v c m)
   unfolding method typesOf
   parameters-are = refl
 
   -- The answers by the types.
-  answer-there : (p : ℕ) {t : Option Text} → getElem? (typesOf v m) p ≡ some t → (item (method v m .parameters) p ⟫ (λ k. nameOr5 (k .type))) ≡ nameOr5 t
+  answer-there : (p : ℕ) {t : Option Text} → getElem? (typesOf v c m) p ≡ some t → (item (method v c m .parameters) p ⟫ (λ k. nameOr5 (k .type))) ≡ nameOr5 t
   answer-there p e =
-      ap (λ (a : Answer Parameter). a ⟫ (λ k. nameOr5 (k .type))) (ap (λ (l : List Parameter). item l p) parameters-are ∙ parameter-some v m p (typesOf v m) e)
+      ap (λ (a : Answer Parameter). a ⟫ (λ k. nameOr5 (k .type))) (ap (λ (l : List Parameter). item l p) parameters-are ∙ parameter-some v m p (typesOf v c m) e)
 
-  answer-gone : (f : Parameter → Answer Text) (p : ℕ) → getElem? (typesOf v m) p ≡ none → (item (method v m .parameters) p ⟫ f) ≡ refusedBy NoSuchRow
+  answer-gone : (f : Parameter → Answer Text) (p : ℕ) → getElem? (typesOf v c m) p ≡ none → (item (method v c m .parameters) p ⟫ f) ≡ refusedBy NoSuchRow
   answer-gone f p e =
-      ap (λ (a : Answer Parameter). a ⟫ f) (ap (λ (l : List Parameter). item l p) parameters-are ∙ parameter-gone v m p (typesOf v m) e)
+      ap (λ (a : Answer Parameter). a ⟫ f) (ap (λ (l : List Parameter). item l p) parameters-are ∙ parameter-gone v m p (typesOf v c m) e)
 
   named-from : (i p : ℕ) (ts : List (Option Text)) → p < length ts
       → (item (parametersFrom v m i ts) p ⟫ (λ k. nameOr5 (k .name))) ≡ nameOr5 (parameterName v m (i + p))
@@ -123,45 +124,49 @@ module _ (v : View) (heap : List ℕ) (m : ℕ) where
       let e : i + 1 + p ≡ i + suc p = omega arith in
       named-from (i + 1) p ts (omega arith) ∙ ap (λ (k : ℕ). nameOr5 (parameterName v m k)) e
 
-  answer-named : (p : ℕ) → p < length (typesOf v m) → (item (method v m .parameters) p ⟫ (λ k. nameOr5 (k .name))) ≡ nameOr5 (parameterName v m p)
+  answer-named : (p : ℕ) → p < length (typesOf v c m) → (item (method v c m .parameters) p ⟫ (λ k. nameOr5 (k .name))) ≡ nameOr5 (parameterName v m p)
   answer-named p h =
       let e : 0 + p ≡ p = omega arith in
       ap (λ (l : List Parameter). item l p ⟫ (λ k. nameOr5 (k .name))) parameters-are
-      ∙ named-from 0 p (typesOf v m) h ∙ ap (λ (k : ℕ). nameOr5 (parameterName v m k)) e
+      ∙ named-from 0 p (typesOf v c m) h ∙ ap (λ (k : ℕ). nameOr5 (parameterName v m k)) e
 
   -- By a row's number from 1.
-  knows-of : (k : Signature) → k .method ≡ m + 1 → Reads v heap m k → KnowsSignature v heap k
-  knows-of k e r = record { signature = λ _. let f : m ≡ k .method - 1 = omega arith in subst (λ (i : ℕ). Reads v heap i k) f r }
+  knows-of : (k : Signature) → About k c m → Reads v heap c m k → KnowsSignature v heap k
+  knows-of k mine r =
+      let row : m ≡ k .method - 1 = omega (arith, mine .method) in
+      record { signature = λ _. subst (λ (d : ℕ). Reads v heap d (k .method - 1) k) (sym (mine .taker)) (subst (λ (i : ℕ). Reads v heap c i k) row r) }
 
-  reads-of : (k : Signature) → k .method ≡ m + 1 → KnowsSignature v heap k → Reads v heap m k
-  reads-of k e r = let f : k .method - 1 ≡ m = omega arith in subst (λ (i : ℕ). Reads v heap i k) f (r .signature (omega arith))
+  reads-of : (k : Signature) → About k c m → KnowsSignature v heap k → Reads v heap c m k
+  reads-of k mine r =
+      let row : k .method - 1 ≡ m = omega (arith, mine .method) in
+      subst (λ (i : ℕ). Reads v heap c i k) row (subst (λ (d : ℕ). Reads v heap d (k .method - 1) k) (mine .taker) (r .signature (omega (arith, mine .method))))
 
   -- A reading that was made, behind p types,
-  module _ {b b′ : List ℕ} {at owner start len next count end : ℕ} (k : Made v heap m b at b′ owner start len next count end) where
-    made-counted : count ≡ length (typesOf v m)
+  module _ {b b′ : List ℕ} {at owner start len next count end : ℕ} (k : Made v heap c m b at b′ owner start len next count end) where
+    made-counted : count ≡ length (typesOf v c m)
     made-counted = sym (ap (λ (l : List (Option Text)). length l) (types-read (k .is)) ∙ types-length (typeBy v m owner) count (part heap start len) next)
 
-    pub knows-behind : (p : ℕ) → p ≤ count → {sig : List ℕ} → sig ≡ part heap start len → {p′ q total : ℕ} → p′ ≡ p → q ≡ behind (typeBy v m owner) p′ sig next → total ≡ count
-        → KnowsSignature v heap (record { method = m + 1; owner = owner; start = start; len = len; count = total; read = p′; next = q })
-    knows-behind p h is e f g =
-        rw (f, e, g, is) (knows-of _ refl (record {
+    pub knows-behind : {taker : ClassNumber} → taker .0 ≡ c → (p : ℕ) → p ≤ count → {sig : List ℕ} → sig ≡ part heap start len → {p′ q total : ℕ} → p′ ≡ p → q ≡ behind (typeBy v m owner) p′ sig next → total ≡ count
+        → KnowsSignature v heap (record { taker = taker; method = m + 1; owner = owner; start = start; len = len; count = total; read = p′; next = q })
+    knows-behind its p h is e f g =
+        rw (f, e, g, is) (knows-of _ (record { taker = its; method = refl }) (record {
           inside = k .inside;
           counted = made-counted;
           rest = ap (drop p) (types-read (k .is)) ∙ types-behind (typeBy v m owner) count p (part heap start len) next h;
         }))
 
     -- at the first of them,
-    pub knows-first : {total : ℕ} → total ≡ count
-        → KnowsSignature v heap (record { method = m + 1; owner = owner; start = start; len = len; count = total; read = 0; next = next })
+    pub knows-first : {taker : ClassNumber} → taker .0 ≡ c → {total : ℕ} → total ≡ count
+        → KnowsSignature v heap (record { taker = taker; method = m + 1; owner = owner; start = start; len = len; count = total; read = 0; next = next })
     unfolding behind
-    knows-first e = knows-behind 0 (omega arith) refl refl refl e
+    knows-first its e = knows-behind its 0 (omega arith) refl refl refl e
 
     -- past all of them,
-    pub knows-past : (p : ℕ) → count ≤ p → {p′ total : ℕ} → p′ ≡ p → total ≡ count
-        → KnowsSignature v heap (record { method = m + 1; owner = owner; start = start; len = len; count = total; read = p′; next = next })
-    knows-past p h e f =
+    pub knows-past : {taker : ClassNumber} → taker .0 ≡ c → (p : ℕ) → count ≤ p → {p′ total : ℕ} → p′ ≡ p → total ≡ count
+        → KnowsSignature v heap (record { taker = taker; method = m + 1; owner = owner; start = start; len = len; count = total; read = p′; next = next })
+    knows-past its p h e f =
         let z : count - p ≡ 0 = omega arith in
-        rw (e, f) (knows-of _ refl (record {
+        rw (e, f) (knows-of _ (record { taker = its; method = refl }) (record {
           inside = k .inside;
           counted = made-counted;
           rest = ap (drop p) (types-read (k .is)) ∙ types-gone (typeBy v m owner) count p (part heap start len) next h
@@ -169,11 +174,11 @@ module _ (v : View) (heap : List ℕ) (m : ℕ) where
         }))
 
   -- and none.
-  pub knows-none : (p : ℕ) → signatureOf v m ≡ none
-      → KnowsSignature v heap (record { method = m + 1; owner = 0; start = 0; len = 0; count = 0; read = p; next = 0 })
-  knows-none p e =
+  pub knows-none : {taker : ClassNumber} → taker .0 ≡ c → (p : ℕ) → signatureIn v c m ≡ none
+      → KnowsSignature v heap (record { taker = taker; method = m + 1; owner = 0; start = 0; len = 0; count = 0; read = p; next = 0 })
+  knows-none its p e =
       let z : 0 - p ≡ 0 = omega arith in
-      knows-of _ refl (record {
+      knows-of _ (record { taker = its; method = refl }) (record {
         inside = omega arith;
         counted = rw (types-unread e) refl;
         rest = ap (drop p) (types-unread e) ∙ drop-nothing p ∙ sym (types-over (typeBy v m 0) (part heap 0 0) 0 z);
@@ -181,50 +186,57 @@ module _ (v : View) (heap : List ℕ) (m : ℕ) where
 
 -- ---- The name of a parameter
 
-module _ (v : View) (heap : List ℕ) (m p : ℕ) (k : Signature) (known : KnowsSignature v heap k) (mine : k .method ≡ m + 1) where
-  pub told-no-param : (b : List ℕ) (at : ℕ) → k .count ≤ p → ToldIs (item (method v m .parameters) p ⟫ (λ x. nameOr5 (x .name))) b at b NoRow
+module _ (v : View) (heap : List ℕ) (c m p : ℕ) (k : Signature) (known : KnowsSignature v heap k) (mine : About k c m) where
+  pub told-no-param : (b : List ℕ) (at : ℕ) → k .count ≤ p → ToldIs (item (method v c m .parameters) p ⟫ (λ x. nameOr5 (x .name))) b at b NoRow
   told-no-param b at h =
-      no-row (answer-gone v heap m (λ x. nameOr5 (x .name)) p (element-past (typesOf v m) p (omega (arith, reads-of v heap m k mine known .counted))))
+      no-row (answer-gone v heap c m (λ x. nameOr5 (x .name)) p (element-past (typesOf v c m) p (omega (arith, reads-of v heap c m k mine known .counted))))
       (kept-same b at)
 
   pub told-param : {b b′ : List ℕ} {at : ℕ} {r : Told} → p < k .count → ToldIs (nameOr5 (parameterName v m p)) b at b′ r
-      → ToldIs (item (method v m .parameters) p ⟫ (λ x. nameOr5 (x .name))) b at b′ r
-  told-param h t = told-same (answer-named v heap m p (omega (arith, reads-of v heap m k mine known .counted))) t
+      → ToldIs (item (method v c m .parameters) p ⟫ (λ x. nameOr5 (x .name))) b at b′ r
+  told-param h t = told-same (answer-named v heap c m p (omega (arith, reads-of v heap c m k mine known .counted))) t
 
 -- ---- A type more
 
-module _ (v : View) (heap : List ℕ) (m p : ℕ) (k : Signature) (known : KnowsSignature v heap k) (mine : k .method ≡ m + 1) (behind-p : k .read ≡ p) where
+-- It is about the class that was meant.
+pub told-of : (v : View) (m p : ℕ) {k : Signature} {c : ℕ} → About k c m → {b b′ : List ℕ} {at : ℕ} {r : Told}
+    → ToldIs (item (method v (k .taker .0) m .parameters) p ⟫ (λ x. nameOr5 (x .type))) b at b′ r
+    → ToldIs (item (method v c m .parameters) p ⟫ (λ x. nameOr5 (x .type))) b at b′ r
+told-of v m p mine {b} {b′} {at} {r} =
+    subst (λ (d : ℕ). ToldIs (item (method v d m .parameters) p ⟫ (λ x. nameOr5 (x .type))) b at b′ r) (mine .taker)
+
+module _ (v : View) (heap : List ℕ) (c m p : ℕ) (k : Signature) (known : KnowsSignature v heap k) (mine : About k c m) (behind-p : k .read ≡ p) where
   abbrev here : Reader Text
   here = typeBy v m (k .owner)
 
   abbrev sig : List ℕ
   sig = part heap (k .start) (k .len)
 
-  reads : Reads v heap m k
-  reads = reads-of v heap m k mine known
+  reads : Reads v heap c m k
+  reads = reads-of v heap c m k mine known
 
-  rest : drop p (typesOf v m) ≡ typesFrom here (k .count - k .read) sig (k .next)
-  rest = ap (λ (i : ℕ). drop i (typesOf v m)) (sym behind-p) ∙ reads .rest
+  rest : drop p (typesOf v c m) ≡ typesFrom here (k .count - k .read) sig (k .next)
+  rest = ap (λ (i : ℕ). drop i (typesOf v c m)) (sym behind-p) ∙ reads .rest
 
   pub part-inside : k .start + k .len ≤ length heap
   part-inside = reads .inside
 
-  pub told-past : (b : List ℕ) (at : ℕ) → k .count ≤ k .read → ToldIs (item (method v m .parameters) p ⟫ (λ x. nameOr5 (x .type))) b at b NoRow
+  pub told-past : (b : List ℕ) (at : ℕ) → k .count ≤ k .read → ToldIs (item (method v c m .parameters) p ⟫ (λ x. nameOr5 (x .type))) b at b NoRow
   told-past b at h =
       let z : k .count - k .read ≡ 0 = omega arith in
-      no-row (answer-gone v heap m (λ x. nameOr5 (x .type)) p (drop-none (typesOf v m) p (rest ∙ types-over here sig (k .next) z))) (kept-same b at)
+      no-row (answer-gone v heap c m (λ x. nameOr5 (x .type)) p (drop-none (typesOf v c m) p (rest ∙ types-over here sig (k .next) z))) (kept-same b at)
 
   module _ (more : k .read < k .count) where
-    split : drop p (typesOf v m) ≡ here sig (k .next) .got ∷ typesFrom here (k .count - k .read - 1) sig (here sig (k .next) .next)
+    split : drop p (typesOf v c m) ≡ here sig (k .next) .got ∷ typesFrom here (k .count - k .read - 1) sig (here sig (k .next) .next)
     split = rest ∙ types-more here (k .count - k .read) sig (k .next) (omega arith)
 
     next-known : {q : ℕ} → here sig (k .next) .next ≡ q → KnowsSignature v heap (readMore k q)
     next-known e =
         let one : k .count - k .read - 1 ≡ k .count - (k .read + 1) = omega arith in
-        knows-of v heap m _ mine (record {
+        knows-of v heap c m _ (record { taker = mine .taker; method = mine .method }) (record {
           inside = part-inside;
           counted = reads .counted;
-          rest = ap (λ (i : ℕ). drop (i + 1) (typesOf v m)) behind-p ∙ drop-tail (typesOf v m) p split
+          rest = ap (λ (i : ℕ). drop (i + 1) (typesOf v c m)) behind-p ∙ drop-tail (typesOf v c m) p split
               ∙ ap (λ (n : ℕ). typesFrom here n sig (here sig (k .next) .next)) one
               ∙ ap (typesFrom here (k .count - (k .read + 1)) sig) e;
         })
@@ -234,13 +246,13 @@ module _ (v : View) (heap : List ℕ) (m p : ℕ) (k : Signature) (known : Knows
       at-part = rw is at rendered
 
       pub told-type : {end next : ℕ} → r ≡ Done end next → {k′ : Signature} → k′ ≡ readMore k next
-          → ToldIs (item (method v m .parameters) p ⟫ (λ x. nameOr5 (x .type))) b at b′ (Name end) × KnowsSignature v heap k′
+          → ToldIs (item (method v c m .parameters) p ⟫ (λ x. nameOr5 (x .type))) b at b′ (Name end) × KnowsSignature v heap k′
       told-type e f =
           let x = rendered-done at-part e in
-          (name (x .text) (answer-there v heap m p (drop-head (typesOf v m) p split) ∙ ap nameOr5 (x .got)) (x .wrote), rw f (next-known (x .on)))
+          (name (x .text) (answer-there v heap c m p (drop-head (typesOf v c m) p split) ∙ ap nameOr5 (x .got)) (x .wrote), rw f (next-known (x .on)))
 
       pub told-no-type : {next : ℕ} → r ≡ Failed next → {k′ : Signature} → k′ ≡ readMore k next
-          → ToldIs (item (method v m .parameters) p ⟫ (λ x. nameOr5 (x .type))) b at b′ (Missing Untold) × KnowsSignature v heap k′
+          → ToldIs (item (method v c m .parameters) p ⟫ (λ x. nameOr5 (x .type))) b at b′ (Missing Untold) × KnowsSignature v heap k′
       told-no-type e f =
           let x = rendered-failed at-part e in
-          (missing (answer-there v heap m p (drop-head (typesOf v m) p split) ∙ ap nameOr5 (x .got)) (x .keeps), rw f (next-known (x .on)))
+          (missing (answer-there v heap c m p (drop-head (typesOf v c m) p split) ∙ ap nameOr5 (x .got)) (x .keeps), rw f (next-known (x .on)))

@@ -35,7 +35,7 @@ use Rattle.record.specs.Columns.{methodList, methodSignature}
 use Rattle.record.specs.View.{View, viewOf}
 use Rattle.record.specs.Types.{Env, methodStart, type}
 use Rattle.record.specs.Names.{rowsIn, sizesOf, numberIn, classes, classRow, env, levels, classGenerics, methodGenerics}
-use Rattle.record.specs.Methods.{Signature, tries, signature, signatureBlob, reading, readBy, methodLists, endBefore, reads, readersAmong, readersFrom, signatureOf}
+use Rattle.record.specs.Methods.{Signature, tries, signature, signatureBlob, reading, readBy, methodLists, endBefore, reads, readersAmong, readersFrom, signatureOf, signatureIn}
 use Rattle.record.proofs.Read.{method-row}
 use Rattle.rows.specs.Columns as columns
 use Rattle.rows.specs.Layout.{Laid, Ascends, rowsAt, cell, optionsIn, viewIn}
@@ -480,3 +480,21 @@ module _ (v : View) (m : ℕ) where
     pub reader-fails : readBy v m reader ≡ none → signatureOf v m ≡ standing v m next
     unfolding standing
     reader-fails e = from ∙ rw (is, e)
+
+-- ---- Whose reading stands, by the mode
+
+module _ (v : View) (c m : ℕ) {mode : Bool} (e : mode ≡ v .taker) where
+  taker-reads : mode ≡ true → signatureIn v c m ≡ readBy v m c
+  unfolding signatureIn
+  taker-reads f = rw (sym e ∙ f)
+
+  any-reads : mode ≡ false → signatureIn v c m ≡ signatureOf v m
+  unfolding signatureIn
+  any-reads f = rw (sym e ∙ f)
+
+  module _ {heap b b′ : List ℕ} {at : ℕ} {r : Reading} where
+    pub taker-stands : mode ≡ true → ReadingIs v heap m (readBy v m c) b at b′ r → ReadingIs v heap m (signatureIn v c m) b at b′ r
+    taker-stands f h = subst (λ (s : Option Signature). ReadingIs v heap m s b at b′ r) (sym (taker-reads f)) h
+
+    pub any-stands : mode ≡ false → ReadingIs v heap m (signatureOf v m) b at b′ r → ReadingIs v heap m (signatureIn v c m) b at b′ r
+    any-stands f h = subst (λ (s : Option Signature). ReadingIs v heap m s b at b′ r) (sym (any-reads f)) h

@@ -1,5 +1,6 @@
 -- What the readings of a method's signature take of the steps, reader by reader. Assumes nothing.
-use mathlib.Core.Path.{_≡_, sym, ap, subst}
+use mathlib.Core.Path.{_≡_, refl, sym, ap, subst, _∙_}
+use mathlib.Core.Bool.{Bool, true, false, _||_}
 use mathlib.Core.List.{List, [], _∷_, map}
 use Prim.Native.Nat.{ℕ, _+_, _*_, _≤_, _<_}
 use lib.ListN.{length}
@@ -13,9 +14,10 @@ use Rattle.heaps.specs.declared.Part.the-variants.{Found, Absent}
 use Rattle.record.specs.Readings.{total}
 use Rattle.record.specs.View.{View}
 use Rattle.record.specs.Names.{env, classGenerics, methodGenerics}
-use Rattle.record.specs.Methods.{Signature, signature, reading, readSteps, readersFrom, methodSteps}
+use Rattle.record.specs.Methods.{Signature, signature, reading, readSteps, readersFrom, methodSteps, stepsIn}
 use Rattle.rows.specs.Columns as columns
-use Rattle.rows.specs.Layout.{Laid, Ascends, rowsAt, cell, viewIn}
+use Rattle.rows.specs.Layout.{Laid, Ascends, rowsAt, isMarked, cell, viewIn}
+use Rattle.rows.proofs.Laws.{marked-ascends}
 use Rattle.sig_leaves.specs.declared.Owner.the-variants.{Of}
 use Rattle.signatures.specs.Environment.{envIn}
 use Rattle.steps.specs.Counting.{Takes, left, spent}
@@ -82,27 +84,55 @@ module _ (v : View) (m steps : ℕ) where
     pub pay-spent : r ≡ Spent → Takes (methodSteps v m) steps Spent
     pay-spent e = spent (omega (arith, pays .paid, one-more, takes-spent takes e))
 
--- ---- Where at most one class reads it
+-- ---- Whose readings count, by the mode
+
+module _ (v : View) (c m : ℕ) {mode : Bool} (e : mode ≡ v .taker) where
+  taker-steps : mode ≡ true → stepsIn v c m ≡ readSteps v m c
+  unfolding stepsIn
+  taker-steps f = rw (sym e ∙ f)
+
+  any-steps : mode ≡ false → stepsIn v c m ≡ methodSteps v m
+  unfolding stepsIn
+  any-steps f = rw (sym e ∙ f)
+
+  pub taker-takes : mode ≡ true → {steps : ℕ} {r : Steps} → Takes (readSteps v m c) steps r → Takes (stepsIn v c m) steps r
+  taker-takes f {steps} {r} takes = subst (λ (n : ℕ). Takes n steps r) (sym (taker-steps f)) takes
+
+  pub any-takes : mode ≡ false → {steps : ℕ} {r : Steps} → Takes (methodSteps v m) steps r → Takes (stepsIn v c m) steps r
+  any-takes f {steps} {r} takes = subst (λ (n : ℕ). Takes n steps r) (sym (any-steps f)) takes
+
+-- ---- Where it is read at most once
 
 pub at-most : (f : ℕ → ℕ) (l : List ℕ) (n : ℕ) → length l ≤ 1 → ((c : ℕ) → f c ≤ n) → total (map f l) ≤ n
 at-most f [] n h each = omega arith
 at-most f (c ∷ []) n h each = omega (arith, each c)
 at-most f (c ∷ d ∷ l) n h each = absurd (omega arith)
 
-module _ {t l : List ℕ} (laid : Laid t l) (strings heap : List ℕ) (m : ℕ) (h : m < rowsAt l columns.methodSignature)
-    (up : Ascends (cell t l columns.methodList) (rowsAt l columns.methodList)) (steps : ℕ)
-    {p : Part} {i : ℕ} (told : i ≡ cell t l columns.methodSignature m) (looked : p ≡ blobAt heap i) where
-  by-one : ((c : ℕ) → readSteps (viewIn t l strings heap) m c ≤ steps) → methodSteps (viewIn t l strings heap) m ≤ steps
+module _ {t l : List ℕ} (laid : Laid t l) (strings heap : List ℕ) (m : ℕ)
+    {once : Bool} (is-once : once ≡ (viewIn t l strings heap .taker || isMarked l columns.methodList)) (yes : once ≡ true) (steps : ℕ) where
+  abbrev w : View
+  w = viewIn t l strings heap
+
+  by-all : Ascends (cell t l columns.methodList) (rowsAt l columns.methodList) → ((c : ℕ) → readSteps w m c ≤ steps) → methodSteps w m ≤ steps
   unfolding methodSteps
-  by-one each = at-most (readSteps (viewIn t l strings heap) m) (readersFrom (viewIn t l strings heap) m 0) steps (few-readers laid strings heap up m) each
+  by-all up each = at-most (readSteps w m) (readersFrom w m 0) steps (few-readers laid strings heap up m) each
 
-  pub blobless-fits : {why : Reason} → p ≡ Absent why → methodSteps (viewIn t l strings heap) m ≤ steps
-  blobless-fits e = by-one (λ c. omega (arith, steps-of (viewIn t l strings heap) m c (unread-blob laid strings heap m c h told looked e)))
+  pub by-one : ((c : ℕ) → readSteps w m c ≤ steps) → (c : ℕ) → stepsIn w c m ≤ steps
+  by-one each c = by-mode (w .taker) refl
+    where
+      by-mode : (b : Bool) → w .taker ≡ b → stepsIn w c m ≤ steps
+      by-mode true e = omega (arith, taker-steps w c m (sym e) refl, each c)
+      by-mode false e =
+          let up = marked-ascends laid columns.methodList (omega arith) (rw e at is-once) yes in
+          omega (arith, any-steps w c m (sym e) refl, by-all up each)
 
-  pub surely-fits : {start len : ℕ} → p ≡ Found start len → {sig : List ℕ} → sig ≡ part heap start len → Suffices sig steps
-      → methodSteps (viewIn t l strings heap) m ≤ steps
-  surely-fits {start} {len} e is suffices =
-      let whole = subst (λ (s : List ℕ). Suffices s steps) is suffices in
-      let v = viewIn t l strings heap in
-      by-one (λ c.
-      omega (arith, steps-of v m c (read-part laid strings heap m c h told looked e), whole .method (env v (classGenerics v c) (methodGenerics v m))))
+  module _ (h : m < rowsAt l columns.methodSignature) {p : Part} {i : ℕ} (told : i ≡ cell t l columns.methodSignature m) (looked : p ≡ blobAt heap i) where
+    pub blobless-fits : {why : Reason} → p ≡ Absent why → (c : ℕ) → stepsIn w c m ≤ steps
+    blobless-fits e = by-one (λ c. omega (arith, steps-of w m c (unread-blob laid strings heap m c h told looked e)))
+
+    pub surely-fits : {start len : ℕ} → p ≡ Found start len → {sig : List ℕ} → sig ≡ part heap start len → Suffices sig steps
+        → (c : ℕ) → stepsIn w c m ≤ steps
+    surely-fits {start} {len} e is suffices =
+        let whole = subst (λ (s : List ℕ). Suffices s steps) is suffices in
+        by-one (λ c.
+        omega (arith, steps-of w m c (read-part laid strings heap m c h told looked e), whole .method (env w (classGenerics w c) (methodGenerics w m))))

@@ -28,7 +28,7 @@ use Rattle.record.specs.Missing.{over, orDefault}
 use Rattle.record.specs.Columns.{paramList}
 use Rattle.record.specs.View.{View, viewOf, otherRow}
 use Rattle.record.specs.Names.{indexed, sizesOf, numberIn, methodRow}
-use Rattle.record.specs.Methods.{Signature, signatureOf, paramText, parameterName}
+use Rattle.record.specs.Methods.{Signature, signatureIn, paramText, parameterName}
 use Rattle.record.specs.Record.{Parameter, parametersFrom, method}
 use Rattle.record.specs.Answers.{orNoRow}
 use Rattle.record.proofs.Read.{method-row}
@@ -61,56 +61,58 @@ module _ (v : View) (m : ℕ) where
   pub parameter-gone : (p : ℕ) (ts : List (Option Text)) → getElem? ts p ≡ none → orNoRow (getElem? (parametersFrom v m 0 ts) p) ≡ refusedBy NoSuchRow
   parameter-gone p ts e = ap orNoRow (parameter-at 0 p ts) ∙ rw e
 
-  -- A method by what its signature is.
-  unread-returns : signatureOf v m ≡ none → method v m .returns ≡ none
+-- A method by what its signature is.
+module _ (v : View) (c m : ℕ) where
+  unread-returns : signatureIn v c m ≡ none → method v c m .returns ≡ none
   unfolding method
   unread-returns e = rw e
 
-  unread-parameters : signatureOf v m ≡ none → method v m .parameters ≡ []
+  unread-parameters : signatureIn v c m ≡ none → method v c m .parameters ≡ []
   unfolding method
   unread-parameters e = rw e
 
-  module _ {s : Signature} (e : signatureOf v m ≡ some s) where
-    read-returns : method v m .returns ≡ some (s .returns)
+  module _ {s : Signature} (e : signatureIn v c m ≡ some s) where
+    read-returns : method v c m .returns ≡ some (s .returns)
     unfolding method
     read-returns = rw e
 
-    read-parameters : method v m .parameters ≡ parametersFrom v m 0 (s .parameters)
+    read-parameters : method v c m .parameters ≡ parametersFrom v m 0 (s .parameters)
     unfolding method
     read-parameters = rw e
 
 -- ---- A reading that was made
 
 -- What a reading that succeeded found.
-pub record Made (v : View) (heap : List ℕ) (m : ℕ) (b : List ℕ) (at : ℕ) (b′ : List ℕ) (owner start len next count end : ℕ) : Type 0 where
+pub record Made (v : View) (heap : List ℕ) (c m : ℕ) (b : List ℕ) (at : ℕ) (b′ : List ℕ) (owner start len next count end : ℕ) : Type 0 where
   pub text : Text
   pub inside : start + len ≤ length heap
-  pub is : signatureOf v m ≡ some (record { returns = text; parameters = typesFrom (typeBy v m owner) count (part heap start len) next })
+  pub is : signatureIn v c m ≡ some (record { returns = text; parameters = typesFrom (typeBy v m owner) count (part heap start len) next })
   pub wrote : Wrote b at text b′ end
 
-module _ {v : View} {heap : List ℕ} {m : ℕ} {b b′ : List ℕ} {at : ℕ} where
-  made-in : {owner start len next count end : ℕ} → ReadingIs v heap m (signatureOf v m) b at b′ (Read owner start len next count end)
-      → Made v heap m b at b′ owner start len next count end
+module _ {v : View} {heap : List ℕ} {c m : ℕ} {b b′ : List ℕ} {at : ℕ} where
+  made-in : {owner start len next count end : ℕ} → ReadingIs v heap m (signatureIn v c m) b at b′ (Read owner start len next count end)
+      → Made v heap c m b at b′ owner start len next count end
   made-in (read t i e w) = record { text = t; inside = i; is = e; wrote = w }
 
-  module _ {r : Reading} (h : ReadingIs v heap m (signatureOf v m) b at b′ r) where
-    pub made : {owner start len next count end : ℕ} → r ≡ Read owner start len next count end → Made v heap m b at b′ owner start len next count end
-    made e = made-in (subst (ReadingIs v heap m (signatureOf v m) b at b′) e h)
+  module _ {r : Reading} (h : ReadingIs v heap m (signatureIn v c m) b at b′ r) where
+    pub made : {owner start len next count end : ℕ} → r ≡ Read owner start len next count end → Made v heap c m b at b′ owner start len next count end
+    made e = made-in (subst (ReadingIs v heap m (signatureIn v c m) b at b′) e h)
 
-    module _ (e : r ≡ Missing) where
-      pub no-return : ToldIs (nameOr5 (method v m .returns)) b at b′ (NoName Untold)
-      no-return = missing (ap nameOr5 (unread-returns v m (reading-missed h e .0))) (reading-missed h e .1)
+  module _ {owner start len next count end : ℕ} (k : Made v heap c m b at b′ owner start len next count end) where
+    pub told-return : ToldIs (nameOr5 (method v c m .returns)) b at b′ (Name end)
+    told-return = name (k .text) (ap nameOr5 (read-returns v c m (k .is))) (k .wrote)
 
-      pub no-parameters : 0 ≡ length (method v m .parameters)
-      no-parameters = rw (unread-parameters v m (reading-missed h e .0))
-
-  module _ {owner start len next count end : ℕ} (k : Made v heap m b at b′ owner start len next count end) where
-    pub told-return : ToldIs (nameOr5 (method v m .returns)) b at b′ (Name end)
-    told-return = name (k .text) (ap nameOr5 (read-returns v m (k .is))) (k .wrote)
-
-    pub parameters-counted : count ≡ length (method v m .parameters)
+    pub parameters-counted : count ≡ length (method v c m .parameters)
     parameters-counted =
-        sym (ap (λ (l : List Parameter). length l) (read-parameters v m (k .is)) ∙ parameters-length v m 0 (typesFrom (typeBy v m owner) count (part heap start len) next) ∙ types-length (typeBy v m owner) count (part heap start len) next)
+        sym (ap (λ (l : List Parameter). length l) (read-parameters v c m (k .is)) ∙ parameters-length v m 0 (typesFrom (typeBy v m owner) count (part heap start len) next) ∙ types-length (typeBy v m owner) count (part heap start len) next)
+
+-- No reading was made.
+module _ {v : View} {heap : List ℕ} (c : ℕ) {m : ℕ} {b b′ : List ℕ} {at : ℕ} {r : Reading} (h : ReadingIs v heap m (signatureIn v c m) b at b′ r) (e : r ≡ Missing) where
+  pub no-return : ToldIs (nameOr5 (method v c m .returns)) b at b′ (NoName Untold)
+  no-return = missing (ap nameOr5 (unread-returns v c m (reading-missed h e .0))) (reading-missed h e .1)
+
+  pub no-parameters : 0 ≡ length (method v c m .parameters)
+  no-parameters = rw (unread-parameters v c m (reading-missed h e .0))
 
 -- ---- The names of parameters, by the ParamList column
 

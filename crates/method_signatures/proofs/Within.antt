@@ -1,5 +1,6 @@
--- How many steps all readings of a method's signature take at most, where one class reads it. Assumes nothing.
+-- How many steps the readings of a method's signature take at most, where one class reads it. Assumes nothing.
 use mathlib.Core.Path.{_≡_, refl, sym, ap, _∙_}
+use mathlib.Core.Bool.{Bool, true, _||_}
 use mathlib.Core.List.{List}
 use mathlib.Core.Option.{Option, none, some, Option·some-injective, Option·none-ne-some}
 use Prim.Native.Nat.{ℕ, _+_, _-_, _*_, _≤_, min}
@@ -15,14 +16,13 @@ use Rattle.record.specs.View.{View, viewOf}
 use Rattle.record.specs.Missing.{andThen}
 use Rattle.record.specs.Columns.{methodSignature}
 use Rattle.record.specs.Names.{sizesOf, methodRow, env, classGenerics, methodGenerics}
-use Rattle.record.specs.Methods.{signature, signatureBlob, reading, readSteps, readersFrom, methodSteps}
+use Rattle.record.specs.Methods.{signature, signatureBlob, reading, readSteps, stepsIn}
 use Rattle.rows.specs.Columns as columns
-use Rattle.rows.specs.Layout.{Laid, Ascends, rowsAt, cell, viewIn}
+use Rattle.rows.specs.Layout.{Laid, isMarked, viewIn}
 use Rattle.sig_leaves.proofs.Specs.{blob-some, blob-absent}
 use Rattle.passing.specs.Passing.{SpecsWithin}
 use Rattle.passing.proofs.Bounds.{signature-within}
-use Rattle.method_signatures.proofs.Laws.{few-readers}
-use Rattle.method_signatures.proofs.Steps.{at-most}
+use Rattle.method_signatures.proofs.Steps.{by-one}
 
 -- A signature is a part of the blob heap.
 part-short : (s : List ℕ) (start n : ℕ) → length (part s start n) ≤ length s
@@ -59,11 +59,11 @@ module _ (v : View) (m : ℕ) where
       go (some b) e =
           le-trans (signature-within (env v (classGenerics v c) (methodGenerics v m)) b most specs) (mul-le-mul-left (most + 1) (signature-short b e))
 
--- Where MethodList ascends, and so many steps suffice for every TypeSpec row.
-pub methods-within : {t l : List ℕ} → Laid t l → (strings heap : List ℕ) → Ascends (cell t l columns.methodList) (rowsAt l columns.methodList) → (m most : ℕ)
-    → ((g h : List Name) → SpecsWithin (env (viewIn t l strings heap) g h) most) → methodSteps (viewIn t l strings heap) m ≤ (most + 1) * length heap
-unfolding methodSteps viewOf
-methods-within {t} {l} laid strings heap up m most specs =
+-- Where it is read at most once, and so many steps suffice for every TypeSpec row.
+pub steps-within : {t l : List ℕ} → Laid t l → (strings heap : List ℕ)
+    → {once : Bool} → once ≡ (viewIn t l strings heap .taker || isMarked l columns.methodList) → once ≡ true → (c m most : ℕ)
+    → ((g h : List Name) → SpecsWithin (env (viewIn t l strings heap) g h) most) → stepsIn (viewIn t l strings heap) c m ≤ (most + 1) * length heap
+unfolding viewOf
+steps-within {t} {l} laid strings heap is-once sure c m most specs =
     let v = viewIn t l strings heap in
-    at-most (readSteps v m) (readersFrom v m 0) ((most + 1) * length heap) (few-readers laid strings heap up m)
-    (λ c. reading-within v m c (specs (classGenerics v c) (methodGenerics v m)))
+    by-one laid strings heap m is-once sure ((most + 1) * length heap) (λ k. reading-within v m k (specs (classGenerics v k) (methodGenerics v m))) c

@@ -9,27 +9,33 @@ use Rattle.numbers.specs.Parts.{part}
 use Rattle.buffers.specs.Texts.{Text}
 use Rattle.record.specs.Missing.{over, orDefault}
 use Rattle.record.specs.View.{View}
-use Rattle.record.specs.Methods.{signatureOf}
+use Rattle.record.specs.Methods.{signatureIn}
 use Rattle.method_signatures.specs.Signatures.{typeBy, typesFrom}
 use Rattle.method_signatures.specs.declared.Signature.{Signature}
 
--- The types of the parameters of method m, none where it has no signature.
-unfoldable pub typesOf : View → ℕ → List (Option Text)
-typesOf v m = orDefault [] (over (λ s. s .parameters) (signatureOf v m))
+-- The types of the parameters of method m, which class c takes; none where it has no signature.
+unfoldable pub typesOf : View → ℕ → ℕ → List (Option Text)
+typesOf v c m = orDefault [] (over (λ s. s .parameters) (signatureIn v c m))
 
 -- The parameters are counted, and the types from the number of those read on are those that are read from the position on.
-pub record Reads (v : View) (heap : List ℕ) (m : ℕ) (k : Signature) : Type 0 where
+pub record Reads (v : View) (heap : List ℕ) (c m : ℕ) (k : Signature) : Type 0 where
   pub inside : k .start + k .len ≤ length heap
-  pub counted : k .count ≡ length (typesOf v m)
-  pub rest : drop (k .read) (typesOf v m) ≡ typesFrom (typeBy v m (k .owner)) (k .count - k .read) (part heap (k .start) (k .len)) (k .next)
+  pub counted : k .count ≡ length (typesOf v c m)
+  pub rest : drop (k .read) (typesOf v c m) ≡ typesFrom (typeBy v m (k .owner)) (k .count - k .read) (part heap (k .start) (k .len)) (k .next)
 
--- What is known is true of its own method, whose row counts from 1; of row 0 it says nothing.
+-- What is known is true of its own class and method, whose row counts from 1; of row 0 it says nothing.
 pub record KnowsSignature (v : View) (heap : List ℕ) (k : Signature) : Type 0 where
-  pub signature : 0 < k .method → Reads v heap (k .method - 1) k
+  pub signature : 0 < k .method → Reads v heap (k .taker .0) (k .method - 1) k
+
+-- It is about method m, which class c takes.
+pub record About (k : Signature) (c m : ℕ) : Type 0 where
+  pub taker : k .taker .0 ≡ c
+  pub method : k .method ≡ m + 1
 
 -- The same after one more type, whose end is at a position.
 abbrev pub readMore : Signature → ℕ → Signature
 readMore k next = record {
+  taker = k .taker;
   method = k .method;
   owner = k .owner;
   start = k .start;

@@ -1,7 +1,7 @@
 // The signatures of methods (ECMA-335 II.23.2.1): whose reading of a method's signature stands (`finalize`, its first pass), the return
 // type that it finds, and the types of the parameters behind it. What is known of a signature goes in and out by value, so that the next
 // question about the same method goes on where the last one left off. It is true whatever is asked next: a question first looks whether
-// it is about the method that is meant, and else finds out anew.
+// it is about the method that is meant, and the class that takes it, and else finds out anew.
 use buffers::Place;
 use buffers::Reason;
 use buffers::Told;
@@ -15,7 +15,7 @@ use sig_leaves::LEVELS;
 use sig_leaves::Owner;
 use steps::Steps;
 ghost use mathlib.Core.Path.{_≡_};
-ghost use mathlib.Core.Bool.{true, _&&_};
+ghost use mathlib.Core.Bool.{true, _&&_, _||_};
 ghost use mathlib.Core.List.{List};
 ghost use mathlib.Core.Option.{none};
 ghost use Prim.Native.Nat.{ℕ, _+_, _<_, _≤_};
@@ -27,15 +27,15 @@ ghost use Rattle.buffers.specs.Telling.{ToldIs};
 ghost use Rattle.record.specs.View.{View};
 ghost use Rattle.record.specs.Names.{levels};
 ghost use Rattle.record.specs.Types.{type};
-ghost use Rattle.record.specs.Methods.{readBy, readSteps, signatureOf, methodSteps, parameterName};
+ghost use Rattle.record.specs.Methods.{readBy, readSteps, signatureOf, methodSteps, signatureIn, stepsIn, parameterName};
 ghost use Rattle.record.specs.Record.{method};
 ghost use Rattle.record.specs.Answers.{_⟫_, item};
 ghost use Rattle.rows.specs.Columns as columns;
-ghost use Rattle.rows.specs.Layout.{Laid, rowsAt, viewIn};
+ghost use Rattle.rows.specs.Layout.{Laid, rowsAt, isMarked, viewIn};
 ghost use Rattle.signatures.specs.Environment.{envIn};
 ghost use Rattle.steps.specs.Counting.{Takes};
 ghost use Rattle.method_signatures.specs.Signatures.{behind, ReadFrom, ReaderIs, ReadingIs};
-ghost use Rattle.method_signatures.specs.Known.{KnowsSignature, readMore};
+ghost use Rattle.method_signatures.specs.Known.{KnowsSignature, About, readMore};
 
 // A method's signature as a class reads it: the class as an owner of generic parameters, where in the blob heap the signature stands, the
 // position behind the return type, the number of parameters, and the place behind the return type's text in the buffer.
@@ -53,6 +53,8 @@ pub enum Reading {
 
 // The signature of a method, as far as the types of some of its parameters have been read.
 pub struct Signature {
+    // the class that takes the method
+    pub taker: ClassNumber,
     // the method's row, from 1; 0 where no signature is known
     pub method: usize,
     // whose class reads it, as an owner of generic parameters, and where in the blob heap it stands
@@ -186,8 +188,9 @@ fn next_reader(tables: &[u8], layout: &[u32], m: usize, from: ClassNumber) -> Cl
     ClassReader::Nobody
 }
 
-// The signature of method m, with the return type at a place: of the classes that read it the lowest whose reading succeeds.
-fn read_signature(
+// The signature of method m where every class may read it, with the return type at a place: of those that do, the lowest whose reading
+// succeeds.
+fn read_by_any(
     buf: &mut [u8],
     at: usize,
     tables: &[u8],
@@ -238,6 +241,28 @@ fn read_signature(
     Reading::Missing
 }
 
+// The signature of method m, which that class takes, with the return type at a place.
+fn read_signature(
+    buf: &mut [u8],
+    at: usize,
+    tables: &[u8],
+    strings: &[u8],
+    blob: &[u8],
+    layout: &[u32],
+    taker: ClassNumber,
+    m: usize,
+) -> Reading
+    requires { ⌜ Laid (now tables) (now layout) ⌝ }
+    requires { ⌜ m < rowsAt (now layout) columns.methodSignature ⌝ }
+    ensures { λ r. let v = viewIn (now (tables .entry)) (now (layout .entry)) (now (strings .entry)) (now (blob .entry)) in
+        ⌜ ReadingIs v (now (blob .entry)) m (signatureIn v (taker .0) m) (now (buf .entry)) at (now (buf .exit)) r ⌝ }
+{
+    if rows::is_taker(layout) {
+        return read_by(buf, at, tables, strings, blob, layout, m, taker);
+    }
+    read_by_any(buf, at, tables, strings, blob, layout, taker, m)
+}
+
 // How many parameters method m has. The text of its return type goes to a buffer of one byte, since only its length is counted.
 pub fn count_params(
     tables: &[u8],
@@ -250,7 +275,7 @@ pub fn count_params(
     requires { ⌜ Laid (now tables) (now layout) ⌝ }
     requires { ⌜ m < rowsAt (now layout) columns.methodSignature ⌝ }
     ensures { λ r. let v = viewIn (now (tables .entry)) (now (layout .entry)) (now (strings .entry)) (now (blob .entry)) in
-        ⌜ r ≡ length (method v m .parameters) ⌝ }
+        ⌜ r ≡ length (method v (taker .0) m .parameters) ⌝ }
 {
     let mut space = [0u8; 1];
     match read_signature(&mut space, 0, tables, strings, blob, layout, taker, m) {
@@ -309,6 +334,7 @@ pub fn no_signature() -> Signature
     ensures { λ r. ⌜ ((v : View) (heap : List ℕ) → KnowsSignature v heap r) ⌝ }
 {
     Signature {
+        taker: ClassNumber(0),
         method: 0,
         owner: 0,
         start: 0,
@@ -320,12 +346,13 @@ pub fn no_signature() -> Signature
 }
 
 // Method m is known to have no signature: no types, however many have been read.
-fn unread_signature(m: usize, read: usize) -> Signature
+fn unread_signature(taker: ClassNumber, m: usize, read: usize) -> Signature
     requires { ⌜ m < 4294967296 ⌝ }
     ensures { λ r.
-        ⌜ ((v : View) (heap : List ℕ) → signatureOf v m ≡ none → KnowsSignature v heap r) × (r .method ≡ m + 1) × (r .read ≡ read) ⌝ }
+        ⌜ ((v : View) (heap : List ℕ) → signatureIn v (taker .0) m ≡ none → KnowsSignature v heap r) × About r (taker .0) m × (r .read ≡ read) ⌝ }
 {
     Signature {
+        taker,
         method: m + 1,
         owner: 0,
         start: 0,
@@ -350,7 +377,7 @@ pub fn tell_return_type(
     requires { ⌜ Laid (now tables) (now layout) ⌝ }
     requires { ⌜ m < rowsAt (now layout) columns.methodSignature ⌝ }
     ensures { λ r. let v = viewIn (now (tables .entry)) (now (layout .entry)) (now (strings .entry)) (now (blob .entry)) in
-        ⌜ ToldIs (nameOr5 (method v m .returns)) (now (buf .entry)) at (now (buf .exit)) (r .told) ×
+        ⌜ ToldIs (nameOr5 (method v (taker .0) m .returns)) (now (buf .entry)) at (now (buf .exit)) (r .told) ×
         KnowsSignature v (now (blob .entry)) (r .signature) ⌝ }
 {
     match read_signature(buf, at, tables, strings, blob, layout, taker, m) {
@@ -363,6 +390,7 @@ pub fn tell_return_type(
             end,
         } => {
             let signature = Signature {
+                taker,
                 method: m + 1,
                 owner,
                 start,
@@ -377,7 +405,7 @@ pub fn tell_return_type(
             }
         }
         Reading::Missing => {
-            let signature = unread_signature(m, 0);
+            let signature = unread_signature(taker, m, 0);
             Typed {
                 told: Told::Missing(Reason::Untold),
                 signature,
@@ -399,7 +427,7 @@ fn find_signature(
     requires { ⌜ Laid (now tables) (now layout) ⌝ }
     requires { ⌜ m < rowsAt (now layout) columns.methodSignature ⌝ }
     ensures { λ r. let v = viewIn (now (tables .entry)) (now (layout .entry)) (now (strings .entry)) (now (blob .entry)) in
-        ⌜ KnowsSignature v (now (blob .entry)) r × (r .method ≡ m + 1) × (r .read ≡ p) ⌝ }
+        ⌜ KnowsSignature v (now (blob .entry)) r × About r (taker .0) m × (r .read ≡ p) ⌝ }
 {
     let mut space = [0u8; 1];
     let read = wide(p);
@@ -414,6 +442,7 @@ fn find_signature(
         } => {
             if count <= p {
                 return Signature {
+                    taker,
                     method: m + 1,
                     owner,
                     start,
@@ -437,6 +466,7 @@ fn find_signature(
                 read,
             );
             Signature {
+                taker,
                 method: m + 1,
                 owner,
                 start,
@@ -446,8 +476,23 @@ fn find_signature(
                 next: behind,
             }
         }
-        Reading::Missing => unread_signature(m, read),
+        Reading::Missing => unread_signature(taker, m, read),
     }
+}
+
+// Whether what is known is about method m, which that class takes.
+fn is_about(known: Signature, taker: ClassNumber, m: usize) -> bool
+    requires { ⌜ m < 4294967296 ⌝ }
+    ensures { λ r. ⌜ (r ≡ true → About known (taker .0) m) ⌝ }
+{
+    let class = known.taker;
+    if class.0 != taker.0 {
+        return false;
+    }
+    if known.method == m + 1 {
+        return true;
+    }
+    false
 }
 
 // The same, by what is known.
@@ -465,9 +510,9 @@ fn signature_at(
     requires { ⌜ m < rowsAt (now layout) columns.methodSignature ⌝ }
     requires { ⌜ KnowsSignature (viewIn (now tables) (now layout) (now strings) (now blob)) (now blob) known ⌝ }
     ensures { λ r. let v = viewIn (now (tables .entry)) (now (layout .entry)) (now (strings .entry)) (now (blob .entry)) in
-        ⌜ KnowsSignature v (now (blob .entry)) r × (r .method ≡ m + 1) × (r .read ≡ p) ⌝ }
+        ⌜ KnowsSignature v (now (blob .entry)) r × About r (taker .0) m × (r .read ≡ p) ⌝ }
 {
-    if known.method == m + 1 {
+    if is_about(known, taker, m) {
         if known.read == wide(p) {
             return known;
         }
@@ -489,10 +534,9 @@ fn signature_of(
     requires { ⌜ m < rowsAt (now layout) columns.methodSignature ⌝ }
     requires { ⌜ KnowsSignature (viewIn (now tables) (now layout) (now strings) (now blob)) (now blob) known ⌝ }
     ensures { λ r. let v = viewIn (now (tables .entry)) (now (layout .entry)) (now (strings .entry)) (now (blob .entry)) in
-        ⌜ KnowsSignature v (now (blob .entry)) r × (r .method ≡ m + 1) ⌝ }
+        ⌜ KnowsSignature v (now (blob .entry)) r × About r (taker .0) m ⌝ }
 {
-    let row = m + 1;
-    if known.method == row {
+    if is_about(known, taker, m) {
         return known;
     }
     find_signature(tables, strings, blob, layout, taker, m, 0)
@@ -503,7 +547,9 @@ fn read_more(known: Signature, after: usize) -> Signature
     requires { ⌜ known .read < 4294967296 ⌝ }
     ensures { λ r. ⌜ r ≡ readMore known after ⌝ }
 {
+    let taker = known.taker;
     Signature {
+        taker,
         method: known.method,
         owner: known.owner,
         start: known.start,
@@ -531,7 +577,7 @@ fn tell_next_type(
     requires { ⌜ KnowsSignature (viewIn (now tables) (now layout) (now strings) (now blob)) (now blob) known × (known .method ≡ m + 1) ×
         (known .read ≡ p) ⌝ }
     ensures { λ r. let v = viewIn (now (tables .entry)) (now (layout .entry)) (now (strings .entry)) (now (blob .entry)) in
-        ⌜ ToldIs (item (method v m .parameters) p ⟫ (λ k. nameOr5 (k .type))) (now (buf .entry)) at (now (buf .exit)) (r .told) ×
+        ⌜ ToldIs (item (method v (known .taker .0) m .parameters) p ⟫ (λ k. nameOr5 (k .type))) (now (buf .entry)) at (now (buf .exit)) (r .told) ×
         KnowsSignature v (now (blob .entry)) (r .signature) ⌝ }
 {
     if known.count <= known.read {
@@ -582,7 +628,7 @@ pub fn tell_param_type(
     requires { ⌜ m < rowsAt (now layout) columns.methodSignature ⌝ }
     requires { ⌜ KnowsSignature (viewIn (now tables) (now layout) (now strings) (now blob)) (now blob) known ⌝ }
     ensures { λ r. let v = viewIn (now (tables .entry)) (now (layout .entry)) (now (strings .entry)) (now (blob .entry)) in
-        ⌜ ToldIs (item (method v m .parameters) p ⟫ (λ k. nameOr5 (k .type))) (now (buf .entry)) at (now (buf .exit)) (r .told) ×
+        ⌜ ToldIs (item (method v (taker .0) m .parameters) p ⟫ (λ k. nameOr5 (k .type))) (now (buf .entry)) at (now (buf .exit)) (r .told) ×
         KnowsSignature v (now (blob .entry)) (r .signature) ⌝ }
 {
     let signature = signature_at(tables, strings, blob, layout, taker, m, p, known);
@@ -646,7 +692,7 @@ pub fn tell_param_name(
     requires { ⌜ m < rowsAt (now layout) columns.methodSignature ⌝ }
     requires { ⌜ KnowsSignature (viewIn (now tables) (now layout) (now strings) (now blob)) (now blob) known ⌝ }
     ensures { λ r. let v = viewIn (now (tables .entry)) (now (layout .entry)) (now (strings .entry)) (now (blob .entry)) in
-        ⌜ ToldIs (item (method v m .parameters) p ⟫ (λ k. nameOr5 (k .name))) (now (buf .entry)) at (now (buf .exit)) (r .told) ×
+        ⌜ ToldIs (item (method v (taker .0) m .parameters) p ⟫ (λ k. nameOr5 (k .name))) (now (buf .entry)) at (now (buf .exit)) (r .told) ×
         KnowsSignature v (now (blob .entry)) (r .signature) ⌝ }
 {
     let signature = signature_of(tables, strings, blob, layout, taker, m, known);
@@ -697,9 +743,8 @@ fn pass_by(
     }
 }
 
-// What all readings of method m's signature take of the steps, by every class that reads it. Where MethodList is known to ascend there is
-// one.
-pub fn pass_readings(
+// What all readings of method m's signature take of the steps where every class may read it. Where MethodList is known to ascend one does.
+fn pass_by_all(
     tables: &[u8],
     strings: &[u8],
     blob: &[u8],
@@ -741,16 +786,49 @@ pub fn pass_readings(
     Steps::Left(have)
 }
 
-// Whether so many steps surely suffice for all readings of method m, as far as the bytes of its signature show it; where MethodList is not
-// known to ascend, several classes may read it.
+// What the readings of method m's signature take of the steps, where that class takes the method.
+pub fn pass_readings(
+    tables: &[u8],
+    strings: &[u8],
+    blob: &[u8],
+    layout: &[u32],
+    taker: ClassNumber,
+    m: usize,
+    steps: u64,
+) -> Steps
+    requires { ⌜ Laid (now tables) (now layout) ⌝ }
+    requires { ⌜ m < rowsAt (now layout) columns.methodSignature ⌝ }
+    ensures { λ r. let v = viewIn (now (tables .entry)) (now (layout .entry)) (now (strings .entry)) (now (blob .entry)) in
+        ⌜ Takes (stepsIn v (taker .0) m) steps r ⌝ }
+{
+    if rows::is_taker(layout) {
+        return pass_by(tables, strings, blob, layout, m, taker, steps);
+    }
+    pass_by_all(tables, strings, blob, layout, taker, m, steps)
+}
+
+// Whether each method that a class takes is known to be read at most once.
+pub fn is_read_once(layout: &[u32]) -> bool
+    requires { ⌜ columns.size ≤ length (now layout) ⌝ }
+    ensures { λ r. let l = now (layout .entry) in
+        ⌜ ((tables strings blob : List ℕ) → r ≡ (viewIn tables l strings blob .taker || isMarked l columns.methodList)) ⌝ }
+{
+    if rows::is_taker(layout) {
+        return true;
+    }
+    rows::is_marked(layout, columns::METHOD_LIST)
+}
+
+// Whether so many steps surely suffice for the readings of method m, whichever class takes it, as far as the bytes of its signature show
+// it and it is known to be read at most once.
 pub fn surely_fits(tables: &[u8], blob: &[u8], layout: &[u32], m: usize, steps: u64) -> bool
     requires { ⌜ Laid (now tables) (now layout) ⌝ }
     requires { ⌜ m < rowsAt (now layout) columns.methodSignature ⌝ }
     ensures { λ r.
-        ⌜ ((strings : List ℕ) → r ≡ true → methodSteps
-        (viewIn (now (tables .entry)) (now (layout .entry)) strings (now (blob .entry))) m ≤ steps) ⌝ }
+        ⌜ ((strings : List ℕ) (c : ℕ) → r ≡ true → stepsIn
+        (viewIn (now (tables .entry)) (now (layout .entry)) strings (now (blob .entry))) c m ≤ steps) ⌝ }
 {
-    if !rows::is_marked(layout, columns::METHOD_LIST) {
+    if !is_read_once(layout) {
         return false;
     }
     let index = rows::read_column(tables, layout, columns::METHOD_SIGNATURE, m);

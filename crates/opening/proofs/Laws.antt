@@ -26,14 +26,14 @@ flag-is false = refl
 
 opened-options : (o : Options) (h : Header) (n : ℕ) → optionsIn (layoutOf o h n) ≡ o
 unfolding optionsIn layoutOf
-opened-options o h n = rw (flag-is (o .security))
+opened-options o h n = rw (flag-is (o .security), flag-is (o .taker))
 
 module _ (o : Options) (t : List ℕ) {l : List ℕ} (u : Unmarked (layoutOf o (opened o t) (length t)) l) where
   said : optionsIn l ≡ o
   unfolding optionsIn
   said =
       let same = opened-options o (opened o t) (length t) in
-      rw (u .same columns.limit (omega arith), u .same columns.security (omega arith)) same
+      rw (u .same columns.limit (omega arith), u .same columns.security (omega arith), u .same columns.taker (omega arith)) same
 
   no-words : (j : ℕ) → j < columns.heldCount → heldLength l j ≡ 0
   no-words j h = u .none (columns.held + columns.heldNumbers * j + columns.heldWords) (omega arith) (omega arith)

@@ -20,7 +20,7 @@ use Rattle.layouts.proofs.Lists.{made-at}
 use Rattle.tables.specs.Extents.{Walked, walkSays, walkReply, extent, extentBy, onlyEntire, keptBy, sizesIn}
 use Rattle.tables.specs.declared.Extents.{Extents}
 use Rattle.rows.specs.Columns as columns
-use Rattle.rows.specs.Layout.{columnNumbers, layoutOf}
+use Rattle.rows.specs.Layout.{columnNumbers, optionNumbers, layoutOf}
 use Rattle.rows.proofs.Laws.{numbers-at}
 use Rattle.opening.specs.Opening.{Unmarked}
 
@@ -91,15 +91,16 @@ kind-below kinds e c = rw e (below (map (λ x. x .kind) readColumns) refl c)
 module _ (o : Options) (h : Header) (n : ℕ) where
   layout-at : (c d : ℕ) → c < columns.count → d < columns.numbers → getD (layoutOf o h n) (columns.numbers * c + d) 0 ≡ getD (columnNumbers o h n (readColumn c)) d 0
   unfolding layoutOf
-  layout-at c d l k = numbers-at o h n readColumns (o .limit ∷ cond (o .security) 1 0 ∷ []) (readColumn columns.count) c d l k
+  layout-at c d l k = numbers-at o h n readColumns (optionNumbers o h n) (readColumn columns.count) c d l k
 
   -- All turns are done, and the options are stored.
-  pub whole : {l : List ℕ} {c v w : ℕ} → Filled (layoutOf o h n) l (columns.numbers * c) → c ≤ columns.count → columns.count ≤ c → v ≡ o .limit → w ≡ cond (o .security) 1 0
-      → Unmarked (layoutOf o h n) (set (set l columns.limit v) columns.security w)
+  pub whole : {l : List ℕ} {c x y z : ℕ} → Filled (layoutOf o h n) l (columns.numbers * c) → c ≤ columns.count → columns.count ≤ c
+      → x ≡ o .limit → y ≡ cond (o .security) 1 0 → z ≡ cond (o .taker) 1 0
+      → Unmarked (layoutOf o h n) (set (set (set l columns.limit x) columns.security y) columns.taker z)
   unfolding layoutOf
-  whole {l} {c} {v} {w} f p q e g =
-      let z : columns.numbers * c ≡ columns.limit = omega arith in
-      let a = put (put (rw z at f) (omega arith) v e) (omega arith) w g in
+  whole {l} {c} {x} {y} {z} f p q ex ey ez =
+      let end : columns.numbers * c ≡ columns.limit = omega arith in
+      let a = put (put (put (rw end at f) (omega arith) x ex) (omega arith) y ey) (omega arith) z ez in
       record { size = omega (arith, a .long); same = a .same; none = a .unset }
 
   -- The numbers of a column, as the code has them.

@@ -90,6 +90,7 @@ fn lay(layout: &mut [u32], len: usize, first: usize, heap: u8, counts: &[u32; 64
     }
     layout[columns::LIMIT] = options.limit;
     layout[columns::SECURITY] = flag(security);
+    layout[columns::TAKER] = flag(options.taker);
 }
 
 // What is lent for the layout is zero, and stays so where the stream is refused.

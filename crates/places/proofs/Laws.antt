@@ -100,7 +100,7 @@ module _ (v : View) (c : ℕ) {first end : ℕ} (is : theClass v c ≡ value (cl
   methods-counted =
       let n : leftAfter v (c + 1) - leftAfter v c ≡ end - first = omega (arith, range .begins, range .ends) in
       ap (λ a. a ⟫ (λ k. value (length (k .methods)))) is
-      ∙ ap value (tabulate-length (method v) (leftAfter v c) (leftAfter v (c + 1) - leftAfter v c) ∙ n)
+      ∙ ap value (tabulate-length (method v c) (leftAfter v c) (leftAfter v (c + 1) - leftAfter v c) ∙ n)
 
   module _ (m : ℕ) where
     pub method-there : {i : ℕ} → i ≡ first + m → i < end → MethodRowIs v c m (MethodAt i)
@@ -109,8 +109,8 @@ module _ (v : View) (c : ℕ) {first end : ℕ} (is : theClass v c ≡ value (cl
         let at : leftAfter v c + m ≡ i = omega (arith, range .begins) in
         at-method
         (ap (λ a. a ⟫ (λ k. item (k .methods) m)) is
-        ∙ ap orNoRow (tabulate-item (method v) (leftAfter v c) (leftAfter v (c + 1) - leftAfter v c) m (omega (arith, range .begins, range .ends)))
-        ∙ ap (λ j. value (method v j)) at)
+        ∙ ap orNoRow (tabulate-item (method v c) (leftAfter v c) (leftAfter v (c + 1) - leftAfter v c) m (omega (arith, range .begins, range .ends)))
+        ∙ ap (λ j. value (method v c j)) at)
         (omega (arith, range .inside))
         (sym at)
 
@@ -118,14 +118,14 @@ module _ (v : View) (c : ℕ) {first end : ℕ} (is : theClass v c ≡ value (cl
     unfolding class
     method-past h =
         no-method (ap (λ a. a ⟫ (λ k. item (k .methods) m)) is
-        ∙ ap orNoRow (tabulate-past (method v) (leftAfter v c) (leftAfter v (c + 1) - leftAfter v c) m (omega (arith, range .begins, range .ends))))
+        ∙ ap orNoRow (tabulate-past (method v c) (leftAfter v c) (leftAfter v (c + 1) - leftAfter v c) m (omega (arith, range .begins, range .ends))))
 
 pub method-none : (v : View) (c m : ℕ) → theClass v c ≡ refusedBy NoSuchRow → MethodRowIs v c m NoMethod
 method-none v c m e = no-method (ap (λ a. a ⟫ (λ k. item (k .methods) m)) e)
 
 -- What a caller that has matched the answer knows.
 module _ {v : View} {c m : ℕ} where
-  method-in : {i : ℕ} → MethodRowIs v c m (MethodAt i) → (theMethod v c m ≡ value (method v i)) × (i < rowsIn v methodDef)
+  method-in : {i : ℕ} → MethodRowIs v c m (MethodAt i) → (theMethod v c m ≡ value (method v c i)) × (i < rowsIn v methodDef)
   method-in (at-method e h f) = (e, h)
 
   method-of-all : {i : ℕ} → MethodRowIs v c m (MethodAt i) → i ≡ leftAfter v c + m
@@ -135,7 +135,7 @@ module _ {v : View} {c m : ℕ} where
   method-out (no-method e) = e
 
   module _ {r : MethodRow} (h : MethodRowIs v c m r) where
-    pub method-found : {i : ℕ} → r ≡ MethodAt i → (theMethod v c m ≡ value (method v i)) × (i < rowsIn v methodDef)
+    pub method-found : {i : ℕ} → r ≡ MethodAt i → (theMethod v c m ≡ value (method v c i)) × (i < rowsIn v methodDef)
     method-found e = method-in (subst (MethodRowIs v c m) e h)
 
     -- Its place among all methods.

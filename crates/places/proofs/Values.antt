@@ -135,7 +135,7 @@ module _ {t l : List ℕ} (laid : Laid t l) (strings blob : List ℕ) where
       no-class-generic g = no-row (stopped (λ k. item (k .generics) g ⟫ nameOrWhy) isn't) (kept-same b place)
 
   -- A method that is listed, at a place of MethodDef.
-  module _ (c m : ℕ) {i : ℕ} (at : (theMethod v c m ≡ value (method v i)) × (i < rowsIn v methodDef)) where
+  module _ (c m : ℕ) {i : ℕ} (at : (theMethod v c m ≡ value (method v c i)) × (i < rowsIn v methodDef)) where
     pub method-inside : (d : ℕ) → d < columns.count → readColumn d .kind ≡ methodDef → i < rowsAt l d
     unfolding viewOf
     method-inside d k e =
@@ -165,21 +165,21 @@ module _ {t l : List ℕ} (laid : Laid t l) (strings blob : List ℕ) where
     unfolding methodGenericName method
     method-generic g n = told-same (through (λ k. item (k .generics) g ⟫ nameOrWhy) (at .0)) n
 
-    pub method-returns : {b b′ : List ℕ} {place : ℕ} {r : Told} → ToldIs (nameOr5 (method v i .returns)) b place b′ r → ToldIs (returnType v c m) b place b′ r
+    pub method-returns : {b b′ : List ℕ} {place : ℕ} {r : Told} → ToldIs (nameOr5 (method v c i .returns)) b place b′ r → ToldIs (returnType v c m) b place b′ r
     unfolding returnType
     method-returns n = told-same (through (λ k. nameOr5 (k .returns)) (at .0)) n
 
-    pub method-parameters : {x : ℕ} → x ≡ length (method v i .parameters) → Numbered (parameterCount v c m) (Is x)
+    pub method-parameters : {x : ℕ} → x ≡ length (method v c i .parameters) → Numbered (parameterCount v c m) (Is x)
     unfolding parameterCount
     method-parameters e = ap value e ∙ sym (through (λ k. value (length (k .parameters))) (at .0))
 
     -- What is asked of parameter p.
     module _ (p : ℕ) {b b′ : List ℕ} {place : ℕ} {r : Told} where
-      pub method-parameter-type : ToldIs (item (method v i .parameters) p ⟫ (λ k. nameOr5 (k .type))) b place b′ r → ToldIs (parameterType v c m p) b place b′ r
+      pub method-parameter-type : ToldIs (item (method v c i .parameters) p ⟫ (λ k. nameOr5 (k .type))) b place b′ r → ToldIs (parameterType v c m p) b place b′ r
       unfolding parameterType
       method-parameter-type n = told-same (ap (λ (a : Answer Method). a ⟫ (λ k. item (k .parameters) p) ⟫ (λ (x : Parameter). nameOr5 (x .type))) (at .0)) n
 
-      pub method-parameter-name : ToldIs (item (method v i .parameters) p ⟫ (λ k. nameOr5 (k .name))) b place b′ r → ToldIs (parameterName v c m p) b place b′ r
+      pub method-parameter-name : ToldIs (item (method v c i .parameters) p ⟫ (λ k. nameOr5 (k .name))) b place b′ r → ToldIs (parameterName v c m p) b place b′ r
       unfolding parameterName
       method-parameter-name n = told-same (ap (λ (a : Answer Method). a ⟫ (λ k. item (k .parameters) p) ⟫ (λ (x : Parameter). nameOr5 (x .name))) (at .0)) n
 

@@ -27,7 +27,7 @@ pub data ClassRowIs (l : List ℕ) (c : ℕ) : ClassRow → Type 0 where
 
 -- Method m of class c is the method at a place of MethodDef, from 0; or there is none.
 pub data MethodRowIs (v : View) (c m : ℕ) : MethodRow → Type 0 where
-  at-method : {i : ℕ} → theMethod v c m ≡ value (method v i) → i < rowsIn v methodDef → i ≡ leftAfter v c + m → MethodRowIs v c m (MethodAt i)
+  at-method : {i : ℕ} → theMethod v c m ≡ value (method v c i) → i < rowsIn v methodDef → i ≡ leftAfter v c + m → MethodRowIs v c m (MethodAt i)
   no-method : theMethod v c m ≡ refusedBy NoSuchRow → MethodRowIs v c m NoMethod
 
 -- What is known of a class's methods is true of the view; of row 0 it says nothing.

@@ -17,7 +17,7 @@ use Rattle.buffers.specs.declared.Reply.{Reply}
 use Rattle.header.specs.declared.Opened.the-variants as opened
 use Rattle.record.specs.View.{View}
 use Rattle.record.specs.Names.{baseSteps}
-use Rattle.record.specs.Methods.{leftAfter, methodSteps}
+use Rattle.record.specs.Methods.{leftAfter, stepsIn}
 use Rattle.record.specs.Answers.{_⟫_, item, theClass, theMethod, Numbered, baseCount, parameterCount, baseName, returnType, parameterType, parameterName}
 use Rattle.record.specs.Answers.{NumberCall, ClassCount, ClassFlags, GenericCount, BaseCount, MethodCount, MethodFlags, MethodGenericCount, ParameterCount, numberAnswer}
 use Rattle.record.specs.Answers.{NameCall, ClassName, GenericName, BaseName, MethodName, MethodGenericName, ReturnType, ParameterType, ParameterName, nameAnswer}
@@ -132,7 +132,7 @@ module _ (v : View) (w : Refused) where
 
   of-method : {A : Type 0} (c m : ℕ) (g : _ → Answer A) → methodWork v c m ≡ refused w → (theMethod v c m ⟫ g) ≡ refused w
   unfolding methodWork
-  of-method c m g e = stands (theMethod v c m) (methodSteps v (leftAfter v c + m)) g w e
+  of-method c m g e = stands (theMethod v c m) (stepsIn v c (leftAfter v c + m)) g w e
 
   -- Where a call counts nothing because it is refused before that, its answer is that refusal.
   name-refused : (call : NameCall) → nameWork call v ≡ refused w → nameAnswer call v ≡ refused w

@@ -28,7 +28,7 @@ module _ (o p : Options) (h : Header) (t : List ℕ) (e : sizesIn o h ≡ sizesI
 
 pub view-by-sizes : ViewBySizes
 unfolding viewOf
-view-by-sizes o p h t strings blob e = rw (e, rows-by o p h t e)
+view-by-sizes o p h t strings blob e m = rw (e, rows-by o p h t e, m)
 
 -- The walk's answer is the walk's reply for the stream.
 pub walk-is : (o : Options) (t strings blob : List ℕ) → walkAnswer (view o t strings blob) ≡ walkOf o t

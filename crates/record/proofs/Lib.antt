@@ -16,3 +16,5 @@ pub mod Example
 pub mod Look
 pub mod Reasons
 pub mod Allowance
+pub mod Readers
+pub mod Modes

@@ -66,6 +66,7 @@ module _ (o : Options) (t u strings blob : List ℕ) (r : Rearranged o t u) wher
         header = headers i;
         size = r .same-length i;
         sizes = sizesIn o (headers i);
+        taker = o .taker;
         row = rows i;
         generics = generics i;
         interfaces = interfaces i;

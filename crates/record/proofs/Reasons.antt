@@ -242,13 +242,13 @@ module _ (o : Options) (t strings blob : List ℕ) where
   at-class f h c =
       class-says Clear clear-early v f c opening (each-table (λ k. Clear (f k)) (class v) 0 (classes v) (λ d a b. h d (omega arith)))
 
-  at-method : (f : Method → Answer Text) → ((m : ℕ) → m < rowsIn v methodDef → Clear (f (method v m))) → (c m : ℕ) → Clear (theMethod v c m ⟫ f)
+  at-method : (f : Method → Answer Text) → ((d m : ℕ) → m < rowsIn v methodDef → Clear (f (method v d m))) → (c m : ℕ) → Clear (theMethod v c m ⟫ f)
   unfolding class leftAfter
   at-method f h c m =
       rw (in-turn (theClass v c) (λ k. item (k .methods) m) f)
       (at-class (λ k. item (k .methods) m ⟫ f) (λ d _. item-says Clear clear-early f (class v d .methods) m
-      (each-table (λ k. Clear (f k)) (method v) (leftAfter v d) (leftAfter v (d + 1) - leftAfter v d)
-      (λ i a b. h i (omega (arith, left-le (rowsIn v methodDef) (methodLists v (d + 1) (classes v - (d + 1)))))))) c)
+      (each-table (λ k. Clear (f k)) (method v d) (leftAfter v d) (leftAfter v (d + 1) - leftAfter v d)
+      (λ i a b. h d i (omega (arith, left-le (rowsIn v methodDef) (methodLists v (d + 1) (classes v - (d + 1)))))))) c)
 
   at-generic : (k g : ℕ) → Clear (item (v .generics k) g ⟫ nameOrWhy)
   at-generic k g = item-says Clear clear-early nameOrWhy (v .generics k) g (generics-clear k)
@@ -258,8 +258,8 @@ module _ (o : Options) (t strings blob : List ℕ) where
   names-clear (ClassName c) e = at-class (λ k. nameOrWhy (k .name)) class-clear c
   names-clear (GenericName c g) e = at-class (λ k. item (k .generics) g ⟫ nameOrWhy) (λ d _. at-generic (2 * classIndex d) g) c
   names-clear (BaseName c b) e = absurd (true≢false (sym e))
-  names-clear (MethodName c m) e = at-method (λ k. nameOrWhy (k .name)) method-clear c m
-  names-clear (MethodGenericName c m g) e = at-method (λ k. item (k .generics) g ⟫ nameOrWhy) (λ n _. at-generic (2 * methodIndex n + 1) g) c m
+  names-clear (MethodName c m) e = at-method (λ k. nameOrWhy (k .name)) (λ _. method-clear) c m
+  names-clear (MethodGenericName c m g) e = at-method (λ k. item (k .generics) g ⟫ nameOrWhy) (λ _ n _. at-generic (2 * methodIndex n + 1) g) c m
   names-clear (ReturnType c m) e = absurd (true≢false (sym e))
   names-clear (ParameterType c m p) e = absurd (true≢false (sym e))
   names-clear (ParameterName c m p) e = absurd (true≢false (sym e))

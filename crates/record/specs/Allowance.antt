@@ -13,7 +13,7 @@ use Rattle.buffers.specs.declared.Refusal.the-variants.{NoName, BufferTooSmall,
 use Rattle.buffers.specs.declared.Reply.{Reply}
 use Rattle.record.specs.View.{View}
 use Rattle.record.specs.Names.{baseSteps}
-use Rattle.record.specs.Methods.{leftAfter, methodSteps}
+use Rattle.record.specs.Methods.{leftAfter, stepsIn}
 use Rattle.record.specs.Answers.{_⟫_, theClass, theMethod, Numbered}
 use Rattle.record.specs.Answers.{NumberCall, ClassCount, ClassFlags, GenericCount, BaseCount, MethodCount, MethodFlags, MethodGenericCount, ParameterCount, numberAnswer}
 use Rattle.record.specs.Answers.{NameCall, ClassName, GenericName, BaseName, MethodName, MethodGenericName, ReturnType, ParameterType, ParameterName, nameAnswer}
@@ -23,9 +23,9 @@ unfoldable pub baseWork : View → ℕ → Answer ℕ
 baseWork v c = theClass v c ⟫ λ _. value (baseSteps v c)
 
 -- What a call for a method's types, parameter names or number of parameters counts: of a method that is there, all readings of its whole
--- signature. Method m of class c is method leftAfter v c + m of all.
+-- signature that the mode makes. Method m of class c is method leftAfter v c + m of all.
 unfoldable pub methodWork : View → ℕ → ℕ → Answer ℕ
-methodWork v c m = theMethod v c m ⟫ λ _. value (methodSteps v (leftAfter v c + m))
+methodWork v c m = theMethod v c m ⟫ λ _. value (stepsIn v c (leftAfter v c + m))
 
 -- What each call counts. Where 1, 2, 3, or 4 for its class or method refuses it, it counts nothing, and that refusal stands.
 abbrev pub numberWork : NumberCall → View → Answer ℕ

@@ -12,7 +12,6 @@ use Rattle.buffers.specs.declared.Reason.the-variants.{NullIndex}
 use Rattle.buffers.specs.declared.Refusal.the-variants.{TooManyRows}
 use Rattle.header.specs.declared.Opened.the-variants.{Refused, Ready}
 use Rattle.numbers.specs.Compressed.{uint, sint}
-use Rattle.numbers.specs.Lists.{tabulate}
 use Rattle.buffers.specs.Texts.{Text, q, same}
 use Rattle.heaps.specs.Lookups.{Name, found, missing}
 use Rattle.record.specs.Types.{Env, type}
@@ -20,10 +19,11 @@ use Rattle.tables.specs.Extents.{sizesIn}
 use Rattle.record.specs.View.{View, view}
 use Rattle.header.specs.Stream.{base, opened}
 use Rattle.record.specs.Names.{levels, baseTypes, baseSteps}
-use Rattle.record.specs.Methods.{methodSteps}
+use Rattle.record.specs.Methods.{stepsIn}
 use Rattle.record.specs.Record.{Method, classRecord}
 use Rattle.buffers.specs.Replies.{Answer, refused, value, nameOr5, nameReply, nameBuffer}
 use Rattle.record.specs.Answers.{walkAnswer}
+use Rattle.record.specs.Modes.{inMode, InOrder}
 
 -- Equal numbers with a sign, and equal values that may be missing.
 unfoldable pub sameℤ : ℤ → ℤ → Bool
@@ -142,16 +142,16 @@ pub record WholeCase : Type 0 where
   pub stop : walkAnswer wholeView .stop ≡ value 64
   pub classes : classRecord wholeView ≡ record { name = found (q "N.L"); flags = 1; generics = []; bases = []; methods = [] } ∷ []
 
--- Three classes whose methods start at 0, 3 and 1 of five. Each class has one generic parameter, X, Y, Z, and each method returns the
--- class's first generic parameter. Methods 1 and 2 go to the third class, but the first class's generics render them last.
-unfoldable pub threeTables : List ℕ
-threeTables =
+-- Three classes and five methods. The methods of the first two classes start at 0 and 3; the third class has that MethodList column. Each
+-- class has one generic parameter, X, Y, Z, but Z has that owner, and each method returns the class's first generic parameter.
+unfoldable pub threeTables : ℕ → ℕ → List ℕ
+threeTables list owner =
     0 ∷ 0 ∷ 0 ∷ 0 ∷ 2 ∷ 0 ∷ 0 ∷ 1 ∷ 0x44 ∷ 0 ∷ 0 ∷ 0 ∷ 0 ∷ 4 ∷ 0 ∷ 0 ∷ 0 ∷ 0 ∷ 0 ∷ 0 ∷ 0 ∷ 0 ∷ 0 ∷ 0 ∷
     4 ∷ 0 ∷ 0 ∷ 0 ∷ 5 ∷ 0 ∷ 0 ∷ 0 ∷ 3 ∷ 0 ∷ 0 ∷ 0 ∷
     0 ∷ 0 ∷ 0 ∷ 0 ∷ 0 ∷ 0 ∷ 0 ∷ 0 ∷ 0 ∷ 0 ∷ 0 ∷ 0 ∷ 0 ∷ 0 ∷
     0 ∷ 0 ∷ 0 ∷ 0 ∷ 0 ∷ 0 ∷ 0 ∷ 0 ∷ 0 ∷ 0 ∷ 0 ∷ 0 ∷ 1 ∷ 0 ∷
     0 ∷ 0 ∷ 0 ∷ 0 ∷ 0 ∷ 0 ∷ 0 ∷ 0 ∷ 0 ∷ 0 ∷ 0 ∷ 0 ∷ 4 ∷ 0 ∷
-    0 ∷ 0 ∷ 0 ∷ 0 ∷ 0 ∷ 0 ∷ 0 ∷ 0 ∷ 0 ∷ 0 ∷ 0 ∷ 0 ∷ 2 ∷ 0 ∷
+    0 ∷ 0 ∷ 0 ∷ 0 ∷ 0 ∷ 0 ∷ 0 ∷ 0 ∷ 0 ∷ 0 ∷ 0 ∷ 0 ∷ list ∷ 0 ∷
     0 ∷ 0 ∷ 0 ∷ 0 ∷ 0 ∷ 0 ∷ 0 ∷ 0 ∷ 0 ∷ 0 ∷ 1 ∷ 0 ∷ 0 ∷ 0 ∷
     0 ∷ 0 ∷ 0 ∷ 0 ∷ 0 ∷ 0 ∷ 0 ∷ 0 ∷ 0 ∷ 0 ∷ 1 ∷ 0 ∷ 0 ∷ 0 ∷
     0 ∷ 0 ∷ 0 ∷ 0 ∷ 0 ∷ 0 ∷ 0 ∷ 0 ∷ 0 ∷ 0 ∷ 1 ∷ 0 ∷ 0 ∷ 0 ∷
@@ -159,7 +159,7 @@ threeTables =
     0 ∷ 0 ∷ 0 ∷ 0 ∷ 0 ∷ 0 ∷ 0 ∷ 0 ∷ 0 ∷ 0 ∷ 1 ∷ 0 ∷ 0 ∷ 0 ∷
     0 ∷ 0 ∷ 0 ∷ 0 ∷ 4 ∷ 0 ∷ 1 ∷ 0 ∷
     0 ∷ 0 ∷ 0 ∷ 0 ∷ 6 ∷ 0 ∷ 3 ∷ 0 ∷
-    0 ∷ 0 ∷ 0 ∷ 0 ∷ 8 ∷ 0 ∷ 5 ∷ 0 ∷
+    0 ∷ 0 ∷ 0 ∷ 0 ∷ owner ∷ 0 ∷ 5 ∷ 0 ∷
     []
 
 unfoldable pub threeStrings : List ℕ
@@ -168,10 +168,30 @@ threeStrings = 0 ∷ 0x58 ∷ 0 ∷ 0x59 ∷ 0 ∷ 0x5A ∷ 0 ∷ []
 unfoldable pub threeBlob : List ℕ
 threeBlob = 0 ∷ 4 ∷ 0x00 ∷ 0x00 ∷ 0x13 ∷ 0x00 ∷ []
 
-abbrev pub ThreeClasses : Type 0
-ThreeClasses =
-    map (λ k. map (λ m. m .returns) (k .methods)) (classRecord (view base threeTables threeStrings threeBlob))
-    ≡ (some (q "X") ∷ []) ∷ [] ∷ (some (q "X") ∷ some (q "X") ∷ some (q "Z") ∷ some (q "Z") ∷ []) ∷ []
+-- In either mode.
+abbrev pub threeView : Bool → ℕ → ℕ → View
+threeView b list owner = view (inMode b base) (threeTables list owner) threeStrings threeBlob
+
+-- What the methods of each class return.
+abbrev pub returned : View → List (List (Option Text))
+returned v = map (λ k. map (λ m. m .returns) (k .methods)) (classRecord v)
+
+-- What is read for the methods 1 to 4, which the third class takes if its methods start at 1.
+abbrev pub stepsOfThird : View → List ℕ
+stepsOfThird v = map (stepsIn v 2) (1 ∷ 2 ∷ 3 ∷ 4 ∷ [])
+
+pub record ThreeClasses : Type 0 where
+  -- As the Rust: methods 1 and 2 go to the third class, but the first class's generics render them last.
+  pub all-read : returned (threeView false 2 8) ≡ (some (q "X") ∷ []) ∷ [] ∷ (some (q "X") ∷ some (q "X") ∷ some (q "Z") ∷ some (q "Z") ∷ []) ∷ []
+  pub all-steps : stepsOfThird (threeView false 2 8) ≡ 2 ∷ 2 ∷ 1 ∷ 1 ∷ []
+  -- The third class alone.
+  pub taker-reads : returned (threeView true 2 8) ≡ (some (q "X") ∷ []) ∷ [] ∷ (some (q "Z") ∷ some (q "Z") ∷ some (q "Z") ∷ some (q "Z") ∷ []) ∷ []
+  pub taker-steps : stepsOfThird (threeView true 2 8) ≡ 1 ∷ 1 ∷ 1 ∷ 1 ∷ []
+  -- Z is nobody's: the third class's reading fails, and the first class's stands only in the Rust's mode.
+  pub third-fails : returned (threeView false 2 0) ≡ (some (q "X") ∷ []) ∷ [] ∷ (some (q "X") ∷ some (q "X") ∷ none ∷ none ∷ []) ∷ []
+  pub taker-fails : returned (threeView true 2 0) ≡ (some (q "X") ∷ []) ∷ [] ∷ (none ∷ none ∷ none ∷ none ∷ []) ∷ []
+  -- In order: the third class's methods start at 4.
+  pub in-order : InOrder (threeView false 5 8)
 
 -- A stream in which nearly every rule has a say: names cut and not, missing and empty; nesting in the order of the rows; generics of classes and of
 -- methods; base types of all three kinds, one without a name; methods with and without a signature; parameters of every sort.
@@ -310,9 +330,7 @@ unnamedBase =
 unfoldable pub unnamedBlob : List ℕ
 unnamedBlob = 0 ∷ 1 ∷ 0x00 ∷ 1 ∷ 0x08 ∷ []
 
--- What is counted (2026-06): of the three classes' methods, each with one type byte, the second and the third are read twice; of the base
--- types also the one that has no name.
+-- What is counted (2026-06): also the base type that has no name.
 pub record StepCases : Type 0 where
-  pub methods : tabulate (methodSteps (view base threeTables threeStrings threeBlob)) 0 5 ≡ 1 ∷ 2 ∷ 2 ∷ 1 ∷ 1 ∷ []
   pub bases : baseTypes (view base unnamedBase cutStrings unnamedBlob) 0 ≡ q "int" ∷ []
   pub counted : baseSteps (view base unnamedBase cutStrings unnamedBlob) 0 ≡ 2

@@ -12,6 +12,7 @@ pub mod Methods
 pub mod Record
 pub mod Answers
 pub mod Allowance
+pub mod Modes
 pub mod Cases
 pub mod Rearrangement
 pub mod Demand

@@ -108,6 +108,16 @@ signatureOf v m = firstThere (map (readBy v m) (readers v m))
 unfoldable pub methodSteps : View → ℕ → ℕ
 methodSteps v m = total (map (readSteps v m) (readers v m))
 
+-- ---- Two modes (2026-09): as the Rust, or the class that takes a method reads its signature, and no other class does
+
+-- The signature of method m, which class c takes.
+unfoldable pub signatureIn : View → ℕ → ℕ → Option Signature
+signatureIn v c m = cond (v .taker) (readBy v m c) (signatureOf v m)
+
+-- How many type bytes are read for it.
+unfoldable pub stepsIn : View → ℕ → ℕ → ℕ
+stepsIn v c m = cond (v .taker) (readSteps v m c) (methodSteps v m)
+
 -- ---- Parameters
 
 -- The name that a Param row gives (II.22.33, `parse_params`): empty where it has no string; `P_` and the place where there is no row.

@@ -10,7 +10,7 @@ use Rattle.heaps.specs.Lookups.{Name}
 use Rattle.record.specs.Columns.{typeFlags, methodFlags, methodName}
 use Rattle.record.specs.View.{View}
 use Rattle.record.specs.Names.{nameIn, classes, classRow, methodRow, classNamed, classGenerics, methodGenerics, baseTypes, numberIn}
-use Rattle.record.specs.Methods.{leftAfter, signatureOf, parameterName}
+use Rattle.record.specs.Methods.{leftAfter, signatureIn, parameterName}
 
 pub record Parameter : Type 0 where
   pub type : Option Text
@@ -35,11 +35,11 @@ abbrev pub parametersFrom : View → ℕ → ℕ → List (Option Text) → List
 parametersFrom v m i [] = []
 parametersFrom v m i (t ∷ ts) = record { type = t; name = parameterName v m i } ∷ parametersFrom v m (i + 1) ts
 
--- Method m (II.22.26, `parse_method_defs`). With no signature read it has no return type and no parameters.
-unfoldable pub method : View → ℕ → Method
-method v m =
+-- Method m, which class c takes (II.22.26, `parse_method_defs`). With no signature read it has no return type and no parameters.
+unfoldable pub method : View → ℕ → ℕ → Method
+method v c m =
     let row = methodRow v m in
-    let signature = signatureOf v m in
+    let signature = signatureIn v c m in
     record {
       name = nameIn v methodName row;
       flags = numberIn v methodFlags row;
@@ -56,7 +56,7 @@ class v c =
       flags = numberIn v typeFlags (classRow v c);
       generics = classGenerics v c;
       bases = baseTypes v c;
-      methods = tabulate (method v) (leftAfter v c) (leftAfter v (c + 1) - leftAfter v c);
+      methods = tabulate (method v c) (leftAfter v c) (leftAfter v (c + 1) - leftAfter v c);
     }
 
 -- The class record.

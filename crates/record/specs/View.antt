@@ -30,6 +30,8 @@ pub record View : Type 0 where
   pub size : ℕ
   -- the index sizes: what the options mean for answers
   pub sizes : IndexSizes
+  -- whether the class that takes a method is the only one to read its signature (2026-09)
+  pub taker : Bool
   -- the kept rows of the other tables, by kind and place from 0
   pub row : ℕ → ℕ → Option (List ℕ)
   -- the names of an owner's generic parameters, by the Owner column as stored
@@ -64,6 +66,7 @@ module _ (o : Options) (h : Header) (t : List ℕ) where
         header = h;
         size = length t;
         sizes = sizesIn o h;
+        taker = o .taker;
         row = otherRow;
         generics = ofKey (owner (sizesIn o h)) (λ r. name strings (genericName (sizesIn o h) r)) (sideRow genericParam) (sideRows genericParam);
         interfaces = ofKey (implClass (sizesIn o h)) (implInterface (sizesIn o h)) (sideRow interfaceImpl) (sideRows interfaceImpl);
@@ -78,8 +81,9 @@ module _ (o : Options) (h : Header) (t : List ℕ) where
 abbrev pub view : Options → List ℕ → List ℕ → List ℕ → View
 view o t strings blob = viewOf o (opened o t) t strings blob
 
--- Two ways of opening that find the same, with equal index sizes, have one view, and so one walk, one record and one answer to every call.
+-- Two ways of opening that find the same, with equal index sizes and in one mode, have one view, and so one walk, one record and one answer
+-- to every call.
 abbrev pub ViewBySizes : Type 0
 ViewBySizes =
-    (o p : Options) (h : Header) (t strings blob : List ℕ) → sizesIn o h ≡ sizesIn p h
+    (o p : Options) (h : Header) (t strings blob : List ℕ) → sizesIn o h ≡ sizesIn p h → o .taker ≡ p .taker
     → viewOf o h t strings blob ≡ viewOf p h t strings blob

@@ -36,7 +36,7 @@ use Rattle.record.proofs.Read.{column-at, column-inside}
 use Rattle.record.proofs.Extents.{kept-le}
 use Rattle.layouts.specs.Read.{Of, readColumns, readColumn, offsetIn, bytesIn}
 use Rattle.rows.specs.Columns as columns
-use Rattle.rows.specs.Layout.{columnNumbers, allNumbers, layoutOf, optionsIn, headerIn, rowsAt, isMarked, cell, Ascends, Laid}
+use Rattle.rows.specs.Layout.{columnNumbers, allNumbers, optionNumbers, layoutOf, optionsIn, headerIn, rowsAt, isMarked, cell, Ascends, Laid}
 
 -- The numbers of column c stand one after the other.
 module _ (o : Options) (h : Header) (n : ℕ) where
@@ -90,7 +90,7 @@ module _ {t l : List ℕ} (laid : Laid t l) where
 
   number-at : (c d : ℕ) → c < columns.count → d < columns.numbers → getD l (columns.numbers * c + d) 0 ≡ getD (columnNumbers o h (length t) (readColumn c)) d 0
   unfolding layoutOf
-  number-at c d k m = laid .is (columns.numbers * c + d) (omega arith) ∙ numbers-at o h (length t) readColumns (o .limit ∷ cond (o .security) 1 0 ∷ []) _ c d k m
+  number-at c d k m = laid .is (columns.numbers * c + d) (omega arith) ∙ numbers-at o h (length t) readColumns (optionNumbers o h (length t)) _ c d k m
 
   first-at : (c : ℕ) → c < columns.count → firstAt l c ≡ place o h t (readColumn c .kind) .start + offsetIn (sizesIn o h) (readColumn c)
   first-at c k =

@@ -51,7 +51,7 @@ part-same l l′ a n h h′ s =
 module _ {t l : List ℕ} (l′ : List ℕ) (laid : Laid t l) (same : (i : ℕ) → i < columns.mark → getD l′ i 0 ≡ getD l i 0) where
   pub same-options : optionsIn l′ ≡ optionsIn l
   unfolding optionsIn
-  same-options = rw (same columns.limit (omega arith), same columns.security (omega arith))
+  same-options = rw (same columns.limit (omega arith), same columns.security (omega arith), same columns.taker (omega arith))
 
   same-cell : (c : ℕ) → cell t l′ c ≡ cell t l c
   same-cell c =

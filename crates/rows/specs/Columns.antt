@@ -93,16 +93,20 @@ rows = 4
 abbrev pub word : ℕ
 word = 4_294_967_296
 
--- Behind those stand the options that the stream was opened with, the limit of rows and whether DeclSecurity counts,
+-- Behind those stand the options that the stream was opened with: the limit of rows, whether DeclSecurity counts, and whether the class
+-- that takes a method is the only one to read its signature;
 abbrev pub limit : ℕ
 limit = numbers * count
 
 abbrev pub security : ℕ
 security = limit + 1
 
+abbrev pub taker : ℕ
+taker = security + 1
+
 -- and a mark: 1 where METHOD_LIST is known to ascend.
 abbrev pub mark : ℕ
-mark = security + 1
+mark = taker + 1
 
 -- Then, for each column by which rows are held, where in the layout the words of its memory begin, and how many there are.
 abbrev pub held : ℕ

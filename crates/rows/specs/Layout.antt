@@ -35,13 +35,17 @@ module _ (o : Options) (h : Header) (n : ℕ) where
   allNumbers [] = []
   allNumbers (c ∷ cs) = columnNumbers c ++ allNumbers cs
 
-  -- The layout: the numbers of all columns that are read, and the options, which say how the stream was opened.
+  -- The options, which say how the stream was opened.
+  abbrev pub optionNumbers : List ℕ
+  optionNumbers = o .limit ∷ cond (o .security) 1 0 ∷ cond (o .taker) 1 0 ∷ []
+
+  -- The layout: the numbers of all columns that are read, and the options.
   unfoldable pub layoutOf : List ℕ
-  layoutOf = allNumbers readColumns ++ (o .limit ∷ cond (o .security) 1 0 ∷ [])
+  layoutOf = allNumbers readColumns ++ optionNumbers
 
 -- What the layout l of a tables stream t says. The options:
 unfoldable pub optionsIn : List ℕ → Options
-optionsIn l = record { limit = getD l columns.limit 0; security = eqb (getD l columns.security 0) 1 }
+optionsIn l = record { limit = getD l columns.limit 0; security = eqb (getD l columns.security 0) 1; taker = eqb (getD l columns.taker 0) 1 }
 
 -- the kept rows of the table that column c is of,
 abbrev pub rowsAt : List ℕ → ℕ → ℕ

@@ -54,12 +54,15 @@ pub const WIDTH: usize = 3;
 pub const ROWS: usize = 4;
 // A word holds less than this.
 pub const WORD: usize = 0x1_0000_0000;
-// Behind those stand the options that the stream was opened with, the limit of rows and whether DeclSecurity counts,
+// Behind those stand the options that the stream was opened with: the limit of rows, whether DeclSecurity counts, and whether the class
+// that takes a method is the only one to read its signature;
 pub const LIMIT: usize = NUMBERS * COUNT;
 
 pub const SECURITY: usize = LIMIT + 1;
+
+pub const TAKER: usize = SECURITY + 1;
 // and a mark: 1 where METHOD_LIST is known to ascend.
-pub const MARK: usize = SECURITY + 1;
+pub const MARK: usize = TAKER + 1;
 // Then, for each column by which rows are held, where in the layout the words of its memory begin, and how many there are.
 pub const HELD: usize = MARK + 1;
 

@@ -1,5 +1,5 @@
 // The rows of the tables (ECMA-335 II.22), read on demand: a column of a row, by the layout that opening made. A layout is a slice of
-// words: the numbers of each column that is read, the two options, a mark, and where the memories are by which rows are found: these
+// words: the numbers of each column that is read, the options, a mark, and where the memories are by which rows are found: these
 // stand behind them, in the same slice.
 pub mod columns;
 
@@ -8,12 +8,13 @@ use buffers::Told;
 use heaps::Part;
 use numbers::wide;
 ghost use mathlib.Core.Path.{_≡_};
-ghost use Prim.Native.Nat.{_+_, _<_, _≤_};
+ghost use mathlib.Core.List.{List};
+ghost use Prim.Native.Nat.{ℕ, _+_, _<_, _≤_};
 ghost use lib.ListN.{length};
 ghost use Rattle.buffers.specs.Telling.{ToldIs};
 ghost use Rattle.heaps.specs.Lookups.{stringAt, name, string, isThere, reasonOf, nameOrWhy};
 ghost use Rattle.rows.specs.Columns as columns;
-ghost use Rattle.rows.specs.Layout.{Laid, rowsAt, isMarked, heldStart, heldLength, heldAt, cell};
+ghost use Rattle.rows.specs.Layout.{Laid, rowsAt, isMarked, heldStart, heldLength, heldAt, cell, viewIn};
 
 // How many rows of the table of a column are kept.
 pub fn count_rows(layout: &[u32], column: usize) -> usize
@@ -32,6 +33,14 @@ pub fn is_marked(layout: &[u32], column: usize) -> bool
         return false;
     }
     layout[columns::MARK] == 1
+}
+
+// Whether the class that takes a method is the only one to read its signature.
+pub fn is_taker(layout: &[u32]) -> bool
+    requires { ⌜ columns.size ≤ length (now layout) ⌝ }
+    ensures { λ r. ⌜ ((tables strings blob : List ℕ) → r ≡ viewIn tables (now (layout .entry)) strings blob .taker) ⌝ }
+{
+    layout[columns::TAKER] == 1
 }
 
 // The memory of number j.

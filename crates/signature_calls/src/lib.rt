@@ -1,5 +1,5 @@
 // The calls for what a method's signature says (ECMA-335 II.23.2.1): its return type, and how many parameters it has, with the type and
-// the name of each. Each counts the type bytes of all readings of the whole signature.
+// the name of each. Each counts the type bytes of all readings of the whole signature that the mode makes.
 use classes::ClassNumber;
 use header::Options;
 use questions::NameQuestion;

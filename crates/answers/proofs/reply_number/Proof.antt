@@ -144,7 +144,7 @@ returns-8 : tie.Need-returns-8
 returns-8 c =
     let start = c .before .before .before .before .before .before .before .before .before .before .before in
     let place = c .before .before .place-method3 .ensures (start .args .strings .now) (start .args .blob .now) (start .pre .1 .own) in
-    (rw (c .before .before .before .before .question7 .given .1) (c .before .count-params-of .ensures _ _ (place .0)), c .with-own3 .ensures _ _ (start .pre .1) (place .1))
+    (rw (c .before .before .before .before .question7 .given .1) (c .before .count-params-of .ensures _ (place .0)), c .with-own3 .ensures _ _ (start .pre .1) (place .1))
 
 pub reply-number-spec : {M : Type 1} → statement M
 reply-number-spec =

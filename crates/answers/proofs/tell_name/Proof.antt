@@ -182,7 +182,7 @@ returns-6 c =
     let start = c .before .before .before .before .before .before .before .before .before .before .before .before .before .before .before in
     let place = c .before .before .before .before .before .place-method3 .ensures (start .args .strings .now) (start .args .blob .now) (start .pre .1 .own) in
     let told = c .before .before .before .tell-return-type-of .ensures in
-    (rw (c .before .before .before .before .before .before .before .question6 .given .1) (told .0 _ _ (place .0)), c .with-signature .ensures _ _ (start .pre .1) (place .1) (told .1))
+    (rw (c .before .before .before .before .before .before .before .question6 .given .1) (told .0 _ (place .0)), c .with-signature .ensures _ _ (start .pre .1) (place .1) (told .1))
 
 -- src/lib.rt:163:1
 same-length-7 : tie.Need-same-length-7
@@ -194,7 +194,7 @@ returns-7 c =
     let start = c .before .before .before .before .before .before .before .before .before .before .before .before .before .before .before .before in
     let place = c .before .before .before .before .before .before .place-method4 .ensures (start .args .strings .now) (start .args .blob .now) (start .pre .1 .own) in
     let told = c .before .before .before .tell-param-type-of .ensures in
-    (rw (c .before .before .before .before .before .before .before .before .question7 .given .1) (told .0 _ _ (place .0)), c .with-signature2 .ensures _ _ (start .pre .1) (place .1) (told .1))
+    (rw (c .before .before .before .before .before .before .before .before .question7 .given .1) (told .0 _ (place .0)), c .with-signature2 .ensures _ _ (start .pre .1) (place .1) (told .1))
 
 -- src/lib.rt:163:1
 same-length-8 : tie.Need-same-length-8
@@ -206,7 +206,7 @@ returns-8 c =
     let start = c .before .before .before .before .before .before .before .before .before .before .before .before .before .before .before .before in
     let place = c .before .before .before .before .before .before .place-method5 .ensures (start .args .strings .now) (start .args .blob .now) (start .pre .1 .own) in
     let told = c .before .before .before .tell-param-name-of .ensures in
-    (rw (c .before .before .before .before .before .before .before .before .question8 .given .1) (told .0 _ _ (place .0)), c .with-signature3 .ensures _ _ (start .pre .1) (place .1) (told .1))
+    (rw (c .before .before .before .before .before .before .before .before .question8 .given .1) (told .0 _ (place .0)), c .with-signature3 .ensures _ _ (start .pre .1) (place .1) (told .1))
 
 pub tell-name-spec : {M : Type 1} → statement M
 tell-name-spec =

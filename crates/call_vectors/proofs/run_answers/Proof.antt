@@ -12,10 +12,10 @@ use Rattle.heaps.proofs.find_byte.Reads as find-byte-reads
 use Rattle.numbers.proofs.cut.Reads as cut-reads
 
 abbrev Inv-loop : tie.InvT-loop
-Inv-loop text tables strings blob agreed₀ differed₀ at₀ agreed differed at = (agreed ≤ at) × (differed ≤ at)
+Inv-loop text tables strings blob options agreed₀ differed₀ at₀ agreed differed at = (agreed ≤ at) × (differed ≤ at)
 
 abbrev μ-loop : tie.MeasureT-loop
-μ-loop text tables strings blob agreed₀ differed₀ at₀ agreed differed at = length text - at
+μ-loop text tables strings blob options agreed₀ differed₀ at₀ agreed differed at = length text - at
 
 -- src/main.rt:43:5
 loop-holds : tie.Need-loop-holds Inv-loop μ-loop

@@ -3,7 +3,7 @@ use native.Mathlib.Omega.{arith}
 use lib.Dec.{T}
 use borrow.Author.Tests.{not-false}
 use Rattle.rows.specs.Columns as columns
-use Rattle.rows.proofs.Laws.{marked-ascends, rows-narrow}
+use Rattle.rows.proofs.Laws.{rows-narrow}
 use Rattle.charges.proofs.Laws.{one-at-least, share-fits, all-fit}
 use borrow.Author.Needs.{needs}
 use Rattle.charges.proofs.all_within.Statement.{statement}
@@ -13,11 +13,11 @@ use Rattle.charges.proofs.all_within.Lts as lts
 use Rattle.charges.proofs.larger.Reads as larger-reads
 use Rattle.passing.proofs.specs_suffice.Reads as specs-suffice-reads
 use Rattle.rows.proofs.count_rows.Reads as count-rows-reads
-use Rattle.rows.proofs.is_marked.Reads as is-marked-reads
+use Rattle.method_signatures.proofs.is_read_once.Reads as is-read-once-reads
 
 -- src/lib.rt:186:9
-is-marked-requires : tie.Need-is-marked-requires
-is-marked-requires c κs = search needs
+is-read-once-requires : tie.Need-is-read-once-requires
+is-read-once-requires c κs = search needs
 
 -- src/lib.rt:187:9
 returns : tie.Need-returns
@@ -59,19 +59,19 @@ specs-suffice-requires c κs = search needs
 returns-3 : tie.Need-returns-3
 returns-3 c = λ strings e.
     let sized = c .before .before .larger .ensures in
-    let marked = c .before .before .before .before .before in
-    let start = marked .before .before .before .before in
+    let start = c .before .before .before .before .before .before .before .before .before in
     let a = start .args in
-    let up = marked-ascends (start .pre) columns.methodList (omega arith) (marked .is-marked .ensures) (not-false _ (c .before .before .before .before .if1 .left)) in
+    let once = c .before .before .before .before .before .is-read-once .ensures (a .tables .now) strings (a .blob .now) in
+    let yes = not-false _ (c .before .before .before .before .if1 .left) in
     let few = share-fits (c .before .before .larger .result) (omega (arith, c .before .if2 .left)) (omega (arith, sized .1)) in
-    all-fit (start .pre) strings (a .blob .now) up few (omega (arith, sized .0)) (omega (arith, sized .1, c .before .before .before .count-rows .ensures))
+    all-fit (start .pre) strings (a .blob .now) once yes few (omega (arith, sized .0)) (omega (arith, sized .1, c .before .before .before .count-rows .ensures))
     (λ g h. c .specs-suffice .ensures strings g h e)
 
 pub all-within-spec : {M : Type 1} → statement M
 all-within-spec =
     tie.close
     (tie.spec
-    is-marked-requires
+    is-read-once-requires
     returns
     count-rows-requires
     add-larger

@@ -41,7 +41,7 @@ returns-2 c =
     let start = placed .before .before .before .before .before in
     let a = start .args in
     let at = placed .place-method .ensures (a .strings .now) (a .blob .now) (start .pre .1) in
-    within-it _ (c .before .before .pass-readings-of .ensures _ _ (at .0)) (c .enum-told .given .1)
+    within-it _ (c .before .before .pass-readings-of .ensures _ (at .0)) (c .enum-told .given .1)
 
 returns-3 : tie.Need-returns-3
 returns-3 c =
@@ -49,7 +49,7 @@ returns-3 c =
     let start = placed .before .before .before .before .before in
     let a = start .args in
     let at = placed .place-method .ensures (a .strings .now) (a .blob .now) (start .pre .1) in
-    beyond-it _ (c .before .before .pass-readings-of .ensures _ _ (at .0)) (c .enum-told2 .given .1)
+    beyond-it _ (c .before .before .pass-readings-of .ensures _ (at .0)) (c .enum-told2 .given .1)
 
 pub method-over-spec : {M : Type 1} → statement M
 method-over-spec =

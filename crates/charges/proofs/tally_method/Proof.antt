@@ -21,7 +21,7 @@ returns c =
     let placed = c .before in
     let a = placed .before .before .before .before .before .before .args in
     let at = placed .place-method .ensures (a .strings .now) (a .blob .now) (placed .before .no-own .ensures _) in
-    c .pass-readings-of .ensures _ _ (at .0)
+    c .pass-readings-of .ensures _ (at .0)
 
 pub tally-method-spec : {M : Type 1} → statement M
 tally-method-spec = tie.close (tie.spec no-own-requires place-method-requires pass-readings-of-requires returns)

@@ -27,17 +27,17 @@ enum-told : tie.Need-enum-told
 enum-told c = search needs
 
 returns : tie.Need-returns
-returns c = λ k m h.
+returns c = λ m h.
     let at-i = c .before .before in
     let at-row-inside = at-i .before .before in
     let start = at-row-inside .before .before .before .before .before in
-    method-parameters (start .pre) _ _ k m (method-found (at-row-inside .row-inside .ensures .1 _ _ _ (start .pre) _ _ h) (at-i .i .given .1)) (c .count-params .ensures)
+    method-parameters (start .pre) _ _ _ m (method-found (at-row-inside .row-inside .ensures .1 _ _ _ (start .pre) _ _ h) (at-i .i .given .1)) (c .count-params .ensures)
 
 returns-2 : tie.Need-returns-2
-returns-2 c = λ k m h.
+returns-2 c = λ m h.
     let at-row-inside = c .before .before in
     let start = at-row-inside .before .before .before .before .before in
-    no-method-parameters (start .pre) _ _ k m (method-missed (at-row-inside .row-inside .ensures .1 _ _ _ (start .pre) _ _ h) (c .enum-told .given .1))
+    no-method-parameters (start .pre) _ _ _ m (method-missed (at-row-inside .row-inside .ensures .1 _ _ _ (start .pre) _ _ h) (c .enum-told .given .1))
 
 pub count-params-of-spec : {M : Type 1} → statement M
 count-params-of-spec = tie.close (tie.spec row-inside-requires enum-known-i count-params-requires enum-told returns returns-2)

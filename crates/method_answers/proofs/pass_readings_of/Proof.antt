@@ -27,18 +27,18 @@ enum-told : tie.Need-enum-told
 enum-told c = search needs
 
 returns : tie.Need-returns
-returns c = λ k m h.
+returns c = λ m h.
     let at-i = c .before .before in
     let at-row-inside = at-i .before .before in
     let start = at-row-inside .before .before .before .before .before in
     let is = at-row-inside .row-inside .ensures .1 _ _ _ (start .pre) _ _ h in
-    method-takes _ k m (method-found is (at-i .i .given .1) .0) (method-place is (at-i .i .given .1)) (c .pass-readings .ensures)
+    method-takes _ _ m (method-found is (at-i .i .given .1) .0) (method-place is (at-i .i .given .1)) (c .pass-readings .ensures)
 
 returns-2 : tie.Need-returns-2
-returns-2 c = λ k m h.
+returns-2 c = λ m h.
     let at-row-inside = c .before .before in
     let start = at-row-inside .before .before .before .before .before in
-    no-method-takes _ k m (method-missed (at-row-inside .row-inside .ensures .1 _ _ _ (start .pre) _ _ h) (c .enum-told .given .1)) _
+    no-method-takes _ _ m (method-missed (at-row-inside .row-inside .ensures .1 _ _ _ (start .pre) _ _ h) (c .enum-told .given .1)) _
 
 pub pass-readings-of-spec : {M : Type 1} → statement M
 pass-readings-of-spec = tie.close (tie.spec row-inside-requires enum-known-i pass-readings-requires enum-told returns returns-2)

@@ -33,7 +33,7 @@ returns c = λ strings k m h told.
     let at-row-inside = at-i .before .before in
     let start = at-row-inside .before .before .before .before in
     let is = at-row-inside .row-inside .ensures .1 _ _ _ (start .pre) _ _ h in
-    omega (arith, method-counts _ k m (method-found is (at-i .i .given .1) .0) (method-place is (at-i .i .given .1)), c .surely-fits .ensures strings told)
+    omega (arith, method-counts _ k m (method-found is (at-i .i .given .1) .0) (method-place is (at-i .i .given .1)), c .surely-fits .ensures strings k told)
 
 returns-2 : tie.Need-returns-2
 returns-2 c = λ strings k m h told.

@@ -35,13 +35,13 @@ returns c =
     let at-i = at-tell-param-name .before .before .before in
     let at-row-inside = at-i .before .before in
     let start = at-row-inside .before .before .before .before .before .before in
-    (λ k m h. method-parameter-name (start .pre .0) _ _ k m (method-found (at-row-inside .row-inside .ensures .1 _ _ _ (start .pre .0) _ _ h) (at-i .i .given .1)) _ (at-tell-param-name .tell-param-name .ensures .0), at-tell-param-name .tell-param-name .ensures .1)
+    (λ m h. method-parameter-name (start .pre .0) _ _ _ m (method-found (at-row-inside .row-inside .ensures .1 _ _ _ (start .pre .0) _ _ h) (at-i .i .given .1)) _ (at-tell-param-name .tell-param-name .ensures .0), at-tell-param-name .tell-param-name .ensures .1)
 
 returns-2 : tie.Need-returns-2
 returns-2 c =
     let at-row-inside = c .before .before in
     let start = at-row-inside .before .before .before .before .before .before in
-    (λ k m h. no-method-parameter-name (start .pre .0) _ _ k m (method-missed (at-row-inside .row-inside .ensures .1 _ _ _ (start .pre .0) _ _ h) (c .enum-told .given .1)) _ _ _, start .pre .1)
+    (λ m h. no-method-parameter-name (start .pre .0) _ _ _ m (method-missed (at-row-inside .row-inside .ensures .1 _ _ _ (start .pre .0) _ _ h) (c .enum-told .given .1)) _ _ _, start .pre .1)
 
 pub tell-param-name-of-spec : {M : Type 1} → statement M
 tell-param-name-of-spec = tie.close (tie.spec row-inside-requires enum-known-i tell-param-name-requires enum-told same-length returns returns-2)

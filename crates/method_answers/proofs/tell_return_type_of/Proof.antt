@@ -38,14 +38,14 @@ returns c =
     let at-i = at-tell-return-type .before .before .before in
     let at-row-inside = at-i .before .before in
     let start = at-row-inside .before .before .before .before .before .before in
-    (λ k m h. method-returns (start .pre) _ _ k m (method-found (at-row-inside .row-inside .ensures .1 _ _ _ (start .pre) _ _ h) (at-i .i .given .1)) (at-tell-return-type .tell-return-type .ensures .0), at-tell-return-type .tell-return-type .ensures .1)
+    (λ m h. method-returns (start .pre) _ _ _ m (method-found (at-row-inside .row-inside .ensures .1 _ _ _ (start .pre) _ _ h) (at-i .i .given .1)) (at-tell-return-type .tell-return-type .ensures .0), at-tell-return-type .tell-return-type .ensures .1)
 
 returns-2 : tie.Need-returns-2
 returns-2 c =
     let at-enum-told = c .before in
     let at-row-inside = at-enum-told .before .before in
     let start = at-row-inside .before .before .before .before .before .before in
-    (λ k m h. no-method-returns (start .pre) _ _ k m (method-missed (at-row-inside .row-inside .ensures .1 _ _ _ (start .pre) _ _ h) (at-enum-told .enum-told .given .1)) _ _, c .no-signature .ensures _ _)
+    (λ m h. no-method-returns (start .pre) _ _ _ m (method-missed (at-row-inside .row-inside .ensures .1 _ _ _ (start .pre) _ _ h) (at-enum-told .enum-told .given .1)) _ _, c .no-signature .ensures _ _)
 
 pub tell-return-type-of-spec : {M : Type 1} → statement M
 tell-return-type-of-spec = tie.close (tie.spec row-inside-requires enum-known-i tell-return-type-requires enum-told no-signature-requires same-length returns returns-2)

@@ -37,7 +37,7 @@ returns c =
 returns-2 : tie.Need-returns-2
 returns-2 c =
     let at-read-signature = c .before .before .before in
-    no-parameters (at-read-signature .read-signature .ensures) (c .enum-told .given .1)
+    no-parameters _ (at-read-signature .read-signature .ensures) (c .enum-told .given .1)
 
 pub count-params-spec : {M : Type 1} → statement M
 count-params-spec =

@@ -52,7 +52,7 @@ returns c =
     let at-read-signature = at-owner .before .before .before in
     let at-wide = at-read-signature .before .before in
     let k = made (at-read-signature .read-signature .ensures) (at-owner .owner .given .1) in
-    (knows-past _ _ _ k _ (at-if1 .if1 .taken) (at-wide .wide .ensures .0) (c .wide2 .ensures .0), refl, at-wide .wide .ensures .0)
+    (knows-past _ _ _ _ k refl _ (at-if1 .if1 .taken) (at-wide .wide .ensures .0) (c .wide2 .ensures .0), record { taker = refl; method = refl }, at-wide .wide .ensures .0)
 
 -- src/lib.rt:411:17
 cut-requires : tie.Need-cut-requires
@@ -116,7 +116,7 @@ returns-2 c =
     let at-wide = at-read-signature .before .before in
     let k = made (at-read-signature .read-signature .ensures) (at-owner .owner .given .1) in
     let is = cut-is _ _ _ _ (k .inside) (at-cut .cut .ensures) .bytes in
-    (knows-behind _ _ _ k _ (omega (arith, at-if1 .if1 .left)) is (at-wide .wide .ensures .0) (at-skip-types .skip-types .ensures .0) (c .wide3 .ensures .0), refl, at-wide .wide .ensures .0)
+    (knows-behind _ _ _ _ k refl _ (omega (arith, at-if1 .if1 .left)) is (at-wide .wide .ensures .0) (at-skip-types .skip-types .ensures .0) (c .wide3 .ensures .0), record { taker = refl; method = refl }, at-wide .wide .ensures .0)
 
 -- src/lib.rt:376:1
 returns-3 : tie.Need-returns-3

@@ -1,8 +1,10 @@
+use mathlib.Core.Path.{refl}
 use native.Mathlib.Omega.{arith}
 use Rattle.numbers.proofs.Parts.{cut-is}
 use Rattle.rows.specs.Columns as columns
 use Rattle.rows.proofs.Laws.{rows-narrow}
 use Rattle.signatures.specs.Environment.{envIn}
+use Rattle.method_signatures.specs.Known.{About}
 use Rattle.method_signatures.proofs.Known.{part-inside, told-past, told-type, told-no-type}
 use borrow.Author.Needs.{needs}
 use Rattle.method_signatures.proofs.tell_next_type.Statement.{statement}
@@ -18,7 +20,7 @@ returns : tie.Need-returns
 returns c =
     let start = c .before .before .before .before .before .before .before in
     let k = start .pre .1 .1 in
-    (told-past _ _ _ _ _ (k .0) (k .1) (k .2) _ _ (c .if1 .taken), k .0)
+    (told-past _ _ _ _ _ _ (k .0) (record { taker = refl; method = k .1 }) (k .2) _ _ (c .if1 .taken), k .0)
 
 -- src/lib.rt:524:9
 cut-requires : tie.Need-cut-requires
@@ -74,8 +76,9 @@ returns-2 c =
     let at-if1 = at-cut .before in
     let start = at-if1 .before .before .before .before .before .before .before in
     let k = start .pre .1 .1 in
-    let is = cut-is _ _ _ _ (part-inside _ _ _ _ _ (k .0) (k .1) (k .2)) (at-cut .cut .ensures) .bytes in
-    told-type _ _ _ _ _ (k .0) (k .1) (k .2) (omega (arith, at-if1 .if1 .left)) is (at-parse-sig-type .parse-sig-type .ensures) (at-end .end .given .1) (c .read-more .ensures)
+    let mine : About (start .args .known) (start .args .known .taker .0) (start .args .m) = record { taker = refl; method = k .1 } in
+    let is = cut-is _ _ _ _ (part-inside _ _ _ _ _ _ (k .0) mine (k .2)) (at-cut .cut .ensures) .bytes in
+    told-type _ _ _ _ _ _ (k .0) mine (k .2) (omega (arith, at-if1 .if1 .left)) is (at-parse-sig-type .parse-sig-type .ensures) (at-end .end .given .1) (c .read-more .ensures)
 
 -- src/lib.rt:500:1
 same-length-2 : tie.Need-same-length-2
@@ -91,8 +94,9 @@ returns-3 c =
     let at-if1 = at-cut .before in
     let start = at-if1 .before .before .before .before .before .before .before in
     let k = start .pre .1 .1 in
-    let is = cut-is _ _ _ _ (part-inside _ _ _ _ _ (k .0) (k .1) (k .2)) (at-cut .cut .ensures) .bytes in
-    told-no-type _ _ _ _ _ (k .0) (k .1) (k .2) (omega (arith, at-if1 .if1 .left)) is (at-parse-sig-type .parse-sig-type .ensures) (at-next .next .given .1) (c .read-more2 .ensures)
+    let mine : About (start .args .known) (start .args .known .taker .0) (start .args .m) = record { taker = refl; method = k .1 } in
+    let is = cut-is _ _ _ _ (part-inside _ _ _ _ _ _ (k .0) mine (k .2)) (at-cut .cut .ensures) .bytes in
+    told-no-type _ _ _ _ _ _ (k .0) mine (k .2) (omega (arith, at-if1 .if1 .left)) is (at-parse-sig-type .parse-sig-type .ensures) (at-next .next .given .1) (c .read-more2 .ensures)
 
 pub tell-next-type-spec : {M : Type 1} → statement M
 tell-next-type-spec =

@@ -26,7 +26,7 @@ returns : tie.Need-returns
 returns c =
     let at-wide = c .before .before in
     let at-signature-of = at-wide .before in
-    (told-no-param _ _ _ _ _ (at-signature-of .signature-of .ensures .0) (at-signature-of .signature-of .ensures .1) _ _ (omega (arith, c .if1 .taken, at-wide .wide .ensures .0)), at-signature-of .signature-of .ensures .0)
+    (told-no-param _ _ _ _ _ _ (at-signature-of .signature-of .ensures .0) (at-signature-of .signature-of .ensures .1) _ _ (omega (arith, c .if1 .taken, at-wide .wide .ensures .0)), at-signature-of .signature-of .ensures .0)
 
 -- src/lib.rt:638:9
 push-param-name-requires : tie.Need-push-param-name-requires
@@ -49,7 +49,7 @@ returns-2 c =
     let at-if1 = at-push-param-name .before .before in
     let at-wide = at-if1 .before .before in
     let at-signature-of = at-wide .before in
-    (told-param _ _ _ _ _ (at-signature-of .signature-of .ensures .0) (at-signature-of .signature-of .ensures .1) (omega (arith, at-if1 .if1 .left, at-wide .wide .ensures .0)) (c .told-by .ensures _ _ _ _ (at-push-param-name .push-param-name .ensures _)), at-signature-of .signature-of .ensures .0)
+    (told-param _ _ _ _ _ _ (at-signature-of .signature-of .ensures .0) (at-signature-of .signature-of .ensures .1) (omega (arith, at-if1 .if1 .left, at-wide .wide .ensures .0)) (c .told-by .ensures _ _ _ _ (at-push-param-name .push-param-name .ensures _)), at-signature-of .signature-of .ensures .0)
 
 pub tell-param-name-spec : {M : Type 1} → statement M
 tell-param-name-spec =

@@ -1,3 +1,4 @@
+use mathlib.Core.Path.{refl}
 use native.Mathlib.Omega.{arith}
 use Rattle.rows.specs.Columns as columns
 use Rattle.rows.proofs.Laws.{rows-narrow}
@@ -51,7 +52,7 @@ returns c =
     let at-owner = c .before .before in
     let at-read-signature = at-owner .before .before .before .before in
     let k = made (at-read-signature .read-signature .ensures) (at-owner .owner .given .1) in
-    (told-return k, knows-first _ _ _ k (c .wide .ensures .0))
+    (told-return k, knows-first _ _ _ _ k refl (c .wide .ensures .0))
 
 -- src/lib.rt:327:1
 same-length-2 : tie.Need-same-length-2
@@ -62,7 +63,7 @@ returns-2 : tie.Need-returns-2
 returns-2 c =
     let at-enum-told = c .before in
     let at-read-signature = at-enum-told .before .before .before .before in
-    (no-return (at-read-signature .read-signature .ensures) (at-enum-told .enum-told .given .1), c .unread-signature .ensures .0 _ _ (reading-missed (at-read-signature .read-signature .ensures) (at-enum-told .enum-told .given .1) .0))
+    (no-return _ (at-read-signature .read-signature .ensures) (at-enum-told .enum-told .given .1), c .unread-signature .ensures .0 _ _ (reading-missed (at-read-signature .read-signature .ensures) (at-enum-told .enum-told .given .1) .0))
 
 pub tell-return-type-spec : {M : Type 1} → statement M
 tell-return-type-spec =

@@ -207,15 +207,21 @@ flag-requires c κs = search needs
 slice-write-layout-7 : tie.Need-slice-write-layout-7 Inv-loop μ-loop
 slice-write-layout-7 c = search needs
 
+flag-requires-2 : tie.Need-flag-requires-2 Inv-loop μ-loop
+flag-requires-2 c κs = search needs
+
+slice-write-layout-8 : tie.Need-slice-write-layout-8 Inv-loop μ-loop
+slice-write-layout-8 c = search needs
+
 same-length : tie.Need-same-length Inv-loop μ-loop
 same-length c =
-    let l = c .before .before in
+    let l = c .before .before .before in
     simp length-set (l .loop .inv .1 .long ∙ sym (ap length (l .before .before .before .before .before .before .before .pre .1)))
 
 returns : tie.Need-returns Inv-loop μ-loop
 returns c =
-    let l = c .before .before in
-    (whole _ _ _ (l .loop .inv .1) (l .loop .inv .0) (c .before .loop-test .left) refl (c .flag .ensures), l .before .before .before .before .before .before .before .good .1 .1 .1 .1 .1 .0 .1 .1 .0 .1)
+    let l = c .before .before .before in
+    (whole _ _ _ (l .loop .inv .1) (l .loop .inv .0) (c .before .before .loop-test .left) refl (c .before .flag .ensures) (c .flag2 .ensures), l .before .before .before .before .before .before .before .good .1 .1 .1 .1 .1 .0 .1 .1 .0 .1)
 
 pub lay-spec : {M : Type 1} → statement M
 lay-spec =
@@ -269,5 +275,7 @@ lay-spec =
     slice-write-layout-6
     flag-requires
     slice-write-layout-7
+    flag-requires-2
+    slice-write-layout-8
     same-length
     returns)
