@@ -28,7 +28,7 @@ const LONGEST: usize = 4096;
 // Room for a key, any name that is not too long, and eight bytes. Written as a value the name may need more.
 pub const LINE_ROOM: usize = 4120;
 
-// What the next line is about.
+// What the next line is about. Packing and size come behind the flags in a listing, and last here, as in the numbers that C programs use.
 pub enum Place {
     Stop,
     Classes,
@@ -43,6 +43,8 @@ pub enum Place {
     ParamType,
     ParamName,
     Done,
+    Packing,
+    Size,
 }
 
 // Where the listing is: the class, the method and the item that the place is about, from 0.
