@@ -1,6 +1,6 @@
 -- The lines of the listing (document 01, "The listing program"): a key, a value, and the byte 0x0A. How a value is written stands in
 -- escapes/Escapes (2026-05).
-use mathlib.Core.Bool.{Bool, true, cond, _||_}
+use mathlib.Core.Bool.{Bool, true, false, cond, _||_}
 use mathlib.Core.List.{[], _∷_, _++_}
 use mathlib.Core.Option.{Option, none, some}
 use Prim.Native.Nat.{ℕ, _+_}
@@ -48,10 +48,13 @@ abbrev pub answerLine : Text → Answer ℕ → Text
 answerLine key (value n) = numberLine key n
 answerLine key (refused w) = []
 
--- The same of a number that may be missing, as 4 says. Any other number refuses the streams, which have no such line.
+-- The same of a number that may be missing, as 4 says: then the key alone. Any other number refuses the streams, which have no such line.
+abbrev pub isMissing : Answer ℕ → Bool
+isMissing (value n) = false
+isMissing (refused w) = eqb (w .number) (number NoSuchRow)
+
 abbrev pub orKeyLine : Text → Answer ℕ → Text
-orKeyLine key (value n) = numberLine key n
-orKeyLine key (refused w) = cond (eqb (w .number) (number NoSuchRow)) (line key []) []
+orKeyLine key a = cond (isMissing a) (line key []) (answerLine key a)
 
 -- The line of a name by its answer. 5 says that the name is missing, 6 that it is too long, and 11 that it takes too many steps. Any other
 -- number says that there is no such row, and so no line.

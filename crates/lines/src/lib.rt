@@ -16,7 +16,7 @@ ghost use Rattle.buffers.specs.Texts.{Text};
 ghost use Rattle.buffers.specs.Writes.{Wrote, Kept};
 ghost use Rattle.buffers.specs.Replies.{number, replySays};
 ghost use Rattle.escapes.specs.Escapes.{shown};
-ghost use Rattle.lines.specs.Lines.{line, nameRoom, numberLine, spentLine, refusedLine, answerLine};
+ghost use Rattle.lines.specs.Lines.{line, nameRoom, numberLine, spentLine, refusedLine, answerLine, isMissing, orKeyLine};
 ghost use Rattle.lines.specs.Cursors.{cursor, first, done, nextNumber, Went};
 
 // What ends a line.
@@ -172,6 +172,31 @@ pub fn end_number(out: &mut [u8], at: usize, start: usize, reply: Reply, next: C
             at: push_nothing(out, at),
         },
     }
+}
+
+// Whether a reply says that there is no such number. Other refusals are those of the streams.
+fn is_missing(reply: Reply) -> bool
+    ensures { λ r. ⌜ r ≡ isMissing (replySays reply) ⌝ }
+{
+    match reply {
+        Reply::Is(_) => false,
+        Reply::No(why) => refusal_number(why) == 4,
+    }
+}
+
+// The line of a number that may be missing, and where it goes on: its key stands alone where it is.
+pub fn end_or_key(out: &mut [u8], at: usize, start: usize, reply: Reply, next: Cursor) -> Step
+    ensures { λ r.
+        ⌜ ((o : List ℕ) (key : Text) → Wrote o at key (now (out .entry)) start → Went (orKeyLine key (replySays reply)) next o at
+        (now (out .exit)) r) ⌝ }
+{
+    if is_missing(reply) {
+        return Step {
+            next,
+            at: end_missing(out, start),
+        };
+    }
+    end_number(out, at, start, reply, next)
 }
 
 // A refusal, which ends the listing.
