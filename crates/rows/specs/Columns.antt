@@ -68,6 +68,16 @@ owner = 17
 abbrev pub genericName : ℕ
 genericName = 18
 
+-- ClassLayout, II.22.8
+abbrev pub packingSize : ℕ
+packingSize = 19
+
+abbrev pub classSize : ℕ
+classSize = 20
+
+abbrev pub layoutParent : ℕ
+layoutParent = 21
+
 -- How many columns there are.
 abbrev pub count : ℕ
 count = readCount

@@ -39,6 +39,12 @@ pub const ENCLOSING: usize = 16;
 pub const OWNER: usize = 17;
 
 pub const GENERIC_NAME: usize = 18;
+// ClassLayout, II.22.8
+pub const PACKING_SIZE: usize = 19;
+
+pub const CLASS_SIZE: usize = 20;
+
+pub const LAYOUT_PARENT: usize = 21;
 
 // How many columns there are.
 pub const COUNT: usize = layouts::columns::COUNT;
