@@ -53,8 +53,6 @@ pub enum Reading {
 
 // The signature of a method, as far as the types of some of its parameters have been read.
 pub struct Signature {
-    // the class that takes the method
-    pub taker: ClassNumber,
     // the method's row, from 1; 0 where no signature is known
     pub method: usize,
     // whose class reads it, as an owner of generic parameters, and where in the blob heap it stands
@@ -190,7 +188,14 @@ fn next_reader(tables: &[u8], layout: &[u32], m: usize, from: ClassNumber) -> Cl
 
 // The signature of method m where every class may read it, with the return type at a place: of those that do, the lowest whose reading
 // succeeds.
-fn read_by_any(
+fn next_in(tables: &[u8], layout: &[u32], m: usize, class: ClassNumber, alone: bool, n: usize) -> ClassReader {
+    if alone {
+        return ClassReader::By(class, classes::class_at(n));
+    }
+    next_reader(tables, layout, m, class)
+}
+
+fn read_signature(
     buf: &mut [u8],
     at: usize,
     tables: &[u8],
@@ -206,9 +211,10 @@ fn read_by_any(
         ⌜ ReadingIs v (now (blob .entry)) m (signatureOf v m) (now (buf .entry)) at (now (buf .exit)) r ⌝ }
 {
     let n = rows::count_rows(layout, columns::METHOD_LIST);
-    let mut class = first_reader(tables, layout, taker, m);
+    let alone = rows::is_taker(layout);
+    let mut class = if alone { taker } else { first_reader(tables, layout, taker, m) };
     while classes::place_of(class) < n {
-        match next_reader(tables, layout, m, class) {
+        match next_in(tables, layout, m, class, alone, n) {
             ClassReader::By(reader, after) => {
                 match read_by(buf, at, tables, strings, blob, layout, m, reader) {
                     Reading::Read {
@@ -239,28 +245,6 @@ fn read_by_any(
         }
     }
     Reading::Missing
-}
-
-// The signature of method m, which that class takes, with the return type at a place.
-fn read_signature(
-    buf: &mut [u8],
-    at: usize,
-    tables: &[u8],
-    strings: &[u8],
-    blob: &[u8],
-    layout: &[u32],
-    taker: ClassNumber,
-    m: usize,
-) -> Reading
-    requires { ⌜ Laid (now tables) (now layout) ⌝ }
-    requires { ⌜ m < rowsAt (now layout) columns.methodSignature ⌝ }
-    ensures { λ r. let v = viewIn (now (tables .entry)) (now (layout .entry)) (now (strings .entry)) (now (blob .entry)) in
-        ⌜ ReadingIs v (now (blob .entry)) m (signatureIn v (taker .0) m) (now (buf .entry)) at (now (buf .exit)) r ⌝ }
-{
-    if rows::is_taker(layout) {
-        return read_by(buf, at, tables, strings, blob, layout, m, taker);
-    }
-    read_by_any(buf, at, tables, strings, blob, layout, taker, m)
 }
 
 // How many parameters method m has. The text of its return type goes to a buffer of one byte, since only its length is counted.
@@ -334,7 +318,6 @@ pub fn no_signature() -> Signature
     ensures { λ r. ⌜ ((v : View) (heap : List ℕ) → KnowsSignature v heap r) ⌝ }
 {
     Signature {
-        taker: ClassNumber(0),
         method: 0,
         owner: 0,
         start: 0,
@@ -352,8 +335,7 @@ fn unread_signature(taker: ClassNumber, m: usize, read: usize) -> Signature
         ⌜ ((v : View) (heap : List ℕ) → signatureIn v (taker .0) m ≡ none → KnowsSignature v heap r) × About r (taker .0) m × (r .read ≡ read) ⌝ }
 {
     Signature {
-        taker,
-        method: m + 1,
+        method: wide(taker.0) * 4_294_967_296 + m + 1,
         owner: 0,
         start: 0,
         len: 0,
@@ -390,8 +372,7 @@ pub fn tell_return_type(
             end,
         } => {
             let signature = Signature {
-                taker,
-                method: m + 1,
+                method: wide(taker.0) * 4_294_967_296 + m + 1,
                 owner,
                 start,
                 len,
@@ -442,8 +423,7 @@ fn find_signature(
         } => {
             if count <= p {
                 return Signature {
-                    taker,
-                    method: m + 1,
+                    method: wide(taker.0) * 4_294_967_296 + m + 1,
                     owner,
                     start,
                     len,
@@ -466,8 +446,7 @@ fn find_signature(
                 read,
             );
             Signature {
-                taker,
-                method: m + 1,
+                method: wide(taker.0) * 4_294_967_296 + m + 1,
                 owner,
                 start,
                 len,
@@ -485,14 +464,7 @@ fn is_about(known: Signature, taker: ClassNumber, m: usize) -> bool
     requires { ⌜ m < 4294967296 ⌝ }
     ensures { λ r. ⌜ (r ≡ true → About known (taker .0) m) ⌝ }
 {
-    let class = known.taker;
-    if class.0 != taker.0 {
-        return false;
-    }
-    if known.method == m + 1 {
-        return true;
-    }
-    false
+    known.method == wide(taker.0) * 4_294_967_296 + m + 1
 }
 
 // The same, by what is known.
@@ -547,9 +519,7 @@ fn read_more(known: Signature, after: usize) -> Signature
     requires { ⌜ known .read < 4294967296 ⌝ }
     ensures { λ r. ⌜ r ≡ readMore known after ⌝ }
 {
-    let taker = known.taker;
     Signature {
-        taker,
         method: known.method,
         owner: known.owner,
         start: known.start,
