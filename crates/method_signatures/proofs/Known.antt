@@ -18,7 +18,6 @@ use Rattle.buffers.specs.declared.Told.{Told}
 use Rattle.buffers.specs.declared.Told.the-variants.{Name, Missing, NoRow}
 use Rattle.buffers.proofs.Writing.{kept-same}
 use Rattle.buffers.proofs.Telling.{told-same}
-use Rattle.classes.specs.declared.ClassNumber.{ClassNumber}
 use Rattle.record.specs.View.{View}
 use Rattle.record.specs.Methods.{Signature as Found, signatureIn, parameterName}
 use Rattle.record.specs.Record.{Parameter, parametersFrom, method}
@@ -28,7 +27,7 @@ use Rattle.rendering.specs.declared.Rendering.{Rendering}
 use Rattle.rendering.specs.declared.Rendering.the-variants.{Done, Failed}
 use Rattle.rendering.proofs.Laws.{rendered-done, rendered-failed}
 use Rattle.method_signatures.specs.Signatures.{typeBy, typesFrom, behind}
-use Rattle.method_signatures.specs.Known.{typesOf, Reads, KnowsSignature, About, readMore}
+use Rattle.method_signatures.specs.Known.{typesOf, Reads, keyOf, KnowsSignature, About, readMore}
 use Rattle.method_signatures.specs.declared.Signature.{Signature}
 use Rattle.method_signatures.proofs.Laws.{types-length}
 use Rattle.method_signatures.proofs.Values.{Made, parameter-some, parameter-gone}
@@ -130,55 +129,57 @@ module _ (v : View) (heap : List ℕ) (c m : ℕ) where
       ap (λ (l : List Parameter). item l p ⟫ (λ k. nameOr5 (k .name))) parameters-are
       ∙ named-from 0 p (typesOf v c m) h ∙ ap (λ (k : ℕ). nameOr5 (parameterName v m k)) e
 
-  -- By a row's number from 1.
+  -- By the one number of a class and a method.
   knows-of : (k : Signature) → About k c m → Reads v heap c m k → KnowsSignature v heap k
-  knows-of k mine r =
-      let row : m ≡ k .method - 1 = omega (arith, mine .method) in
-      record { signature = λ _. subst (λ (d : ℕ). Reads v heap d (k .method - 1) k) (sym (mine .taker)) (subst (λ (i : ℕ). Reads v heap c i k) row r) }
+  knows-of k mine r = record {
+    signature = λ d i narrow is.
+        let class : c ≡ d = omega (arith, mine .narrow, mine .method) in
+        let row : m ≡ i = omega (arith, mine .narrow, mine .method) in
+        subst (λ (j : ℕ). Reads v heap d j k) row (subst (λ (b : ℕ). Reads v heap b m k) class r);
+  }
 
   reads-of : (k : Signature) → About k c m → KnowsSignature v heap k → Reads v heap c m k
-  reads-of k mine r =
-      let row : k .method - 1 ≡ m = omega (arith, mine .method) in
-      subst (λ (i : ℕ). Reads v heap c i k) row (subst (λ (d : ℕ). Reads v heap d (k .method - 1) k) (mine .taker) (r .signature (omega (arith, mine .method))))
+  reads-of k mine r = r .signature c m (mine .narrow) (mine .method)
 
   -- A reading that was made, behind p types,
   module _ {b b′ : List ℕ} {at owner start len next count end : ℕ} (k : Made v heap c m b at b′ owner start len next count end) where
     made-counted : count ≡ length (typesOf v c m)
     made-counted = sym (ap (λ (l : List (Option Text)). length l) (types-read (k .is)) ∙ types-length (typeBy v m owner) count (part heap start len) next)
 
-    pub knows-behind : {taker : ClassNumber} → taker .0 ≡ c → (p : ℕ) → p ≤ count → {sig : List ℕ} → sig ≡ part heap start len → {p′ q total : ℕ} → p′ ≡ p → q ≡ behind (typeBy v m owner) p′ sig next → total ≡ count
-        → KnowsSignature v heap (record { taker = taker; method = m + 1; owner = owner; start = start; len = len; count = total; read = p′; next = q })
-    knows-behind its p h is e f g =
-        rw (f, e, g, is) (knows-of _ (record { taker = its; method = refl }) (record {
-          inside = k .inside;
-          counted = made-counted;
-          rest = ap (drop p) (types-read (k .is)) ∙ types-behind (typeBy v m owner) count p (part heap start len) next h;
-        }))
+    module _ (narrow : m + 1 < 4294967296) {key : ℕ} (its : key ≡ keyOf c m) where
+      pub knows-behind : (p : ℕ) → p ≤ count → {sig : List ℕ} → sig ≡ part heap start len → {p′ q total : ℕ} → p′ ≡ p → q ≡ behind (typeBy v m owner) p′ sig next → total ≡ count
+          → KnowsSignature v heap (record { method = key; owner = owner; start = start; len = len; count = total; read = p′; next = q })
+      knows-behind p h is e f g =
+          rw (f, e, g, is) (knows-of _ (record { narrow = narrow; method = its }) (record {
+            inside = k .inside;
+            counted = made-counted;
+            rest = ap (drop p) (types-read (k .is)) ∙ types-behind (typeBy v m owner) count p (part heap start len) next h;
+          }))
 
-    -- at the first of them,
-    pub knows-first : {taker : ClassNumber} → taker .0 ≡ c → {total : ℕ} → total ≡ count
-        → KnowsSignature v heap (record { taker = taker; method = m + 1; owner = owner; start = start; len = len; count = total; read = 0; next = next })
-    unfolding behind
-    knows-first its e = knows-behind its 0 (omega arith) refl refl refl e
+      -- at the first of them,
+      pub knows-first : {total : ℕ} → total ≡ count
+          → KnowsSignature v heap (record { method = key; owner = owner; start = start; len = len; count = total; read = 0; next = next })
+      unfolding behind
+      knows-first e = knows-behind 0 (omega arith) refl refl refl e
 
-    -- past all of them,
-    pub knows-past : {taker : ClassNumber} → taker .0 ≡ c → (p : ℕ) → count ≤ p → {p′ total : ℕ} → p′ ≡ p → total ≡ count
-        → KnowsSignature v heap (record { taker = taker; method = m + 1; owner = owner; start = start; len = len; count = total; read = p′; next = next })
-    knows-past its p h e f =
-        let z : count - p ≡ 0 = omega arith in
-        rw (e, f) (knows-of _ (record { taker = its; method = refl }) (record {
-          inside = k .inside;
-          counted = made-counted;
-          rest = ap (drop p) (types-read (k .is)) ∙ types-gone (typeBy v m owner) count p (part heap start len) next h
-              ∙ sym (types-over (typeBy v m owner) (part heap start len) next z);
-        }))
+      -- past all of them,
+      pub knows-past : (p : ℕ) → count ≤ p → {p′ total : ℕ} → p′ ≡ p → total ≡ count
+          → KnowsSignature v heap (record { method = key; owner = owner; start = start; len = len; count = total; read = p′; next = next })
+      knows-past p h e f =
+          let z : count - p ≡ 0 = omega arith in
+          rw (e, f) (knows-of _ (record { narrow = narrow; method = its }) (record {
+            inside = k .inside;
+            counted = made-counted;
+            rest = ap (drop p) (types-read (k .is)) ∙ types-gone (typeBy v m owner) count p (part heap start len) next h
+                ∙ sym (types-over (typeBy v m owner) (part heap start len) next z);
+          }))
 
   -- and none.
-  pub knows-none : {taker : ClassNumber} → taker .0 ≡ c → (p : ℕ) → signatureIn v c m ≡ none
-      → KnowsSignature v heap (record { taker = taker; method = m + 1; owner = 0; start = 0; len = 0; count = 0; read = p; next = 0 })
-  knows-none its p e =
+  pub knows-none : m + 1 < 4294967296 → {key : ℕ} → key ≡ keyOf c m → (p : ℕ) → signatureIn v c m ≡ none
+      → KnowsSignature v heap (record { method = key; owner = 0; start = 0; len = 0; count = 0; read = p; next = 0 })
+  knows-none narrow its p e =
       let z : 0 - p ≡ 0 = omega arith in
-      knows-of _ (record { taker = its; method = refl }) (record {
+      knows-of _ (record { narrow = narrow; method = its }) (record {
         inside = omega arith;
         counted = rw (types-unread e) refl;
         rest = ap (drop p) (types-unread e) ∙ drop-nothing p ∙ sym (types-over (typeBy v m 0) (part heap 0 0) 0 z);
@@ -197,13 +198,6 @@ module _ (v : View) (heap : List ℕ) (c m p : ℕ) (k : Signature) (known : Kno
   told-param h t = told-same (answer-named v heap c m p (omega (arith, reads-of v heap c m k mine known .counted))) t
 
 -- ---- A type more
-
--- It is about the class that was meant.
-pub told-of : (v : View) (m p : ℕ) {k : Signature} {c : ℕ} → About k c m → {b b′ : List ℕ} {at : ℕ} {r : Told}
-    → ToldIs (item (method v (k .taker .0) m .parameters) p ⟫ (λ x. nameOr5 (x .type))) b at b′ r
-    → ToldIs (item (method v c m .parameters) p ⟫ (λ x. nameOr5 (x .type))) b at b′ r
-told-of v m p mine {b} {b′} {at} {r} =
-    subst (λ (d : ℕ). ToldIs (item (method v d m .parameters) p ⟫ (λ x. nameOr5 (x .type))) b at b′ r) (mine .taker)
 
 module _ (v : View) (heap : List ℕ) (c m p : ℕ) (k : Signature) (known : KnowsSignature v heap k) (mine : About k c m) (behind-p : k .read ≡ p) where
   abbrev here : Reader Text
@@ -233,7 +227,7 @@ module _ (v : View) (heap : List ℕ) (c m p : ℕ) (k : Signature) (known : Kno
     next-known : {q : ℕ} → here sig (k .next) .next ≡ q → KnowsSignature v heap (readMore k q)
     next-known e =
         let one : k .count - k .read - 1 ≡ k .count - (k .read + 1) = omega arith in
-        knows-of v heap c m _ (record { taker = mine .taker; method = mine .method }) (record {
+        knows-of v heap c m _ (record { narrow = mine .narrow; method = mine .method }) (record {
           inside = part-inside;
           counted = reads .counted;
           rest = ap (λ (i : ℕ). drop (i + 1) (typesOf v c m)) behind-p ∙ drop-tail (typesOf v c m) p split

@@ -1,12 +1,12 @@
 -- What reading a method's signature relies on: the types behind a position, a class's reading step by step, and the scan for the class whose
 -- reading stands. Assumes nothing.
 use mathlib.Core.Path.{_≡_, refl, sym, ap, subst, _∙_}
-use mathlib.Core.Bool.{Bool, true, false, cond, _&&_}
+use mathlib.Core.Bool.{Bool, true, false, cond, _&&_, _||_}
 use mathlib.Core.List.{List, [], _∷_, map}
 use mathlib.Core.Option.{Option, none, some}
 use Prim.Native.Nat.{ℕ, zero, suc, _+_, _-_, _*_, _≤_, _<_}
 use mathlib.Core.Logic.{⊎-elim}
-use native.Mathlib.Nat.{sub-zero, eq-zero-or-pos}
+use native.Mathlib.Nat.{eq-zero-or-pos}
 use native.Mathlib.Omega.{arith}
 use borrow.Author.Tests.{eq-eqb, ne-eqb, le-leb, lt-leb, lt-ltb, le-ltb}
 use lib.Dec.{T, eqb, leb, ltb, leb→le, ltb→lt}
@@ -38,8 +38,8 @@ use Rattle.record.specs.Names.{rowsIn, sizesOf, numberIn, classes, classRow, en
 use Rattle.record.specs.Methods.{Signature, tries, signature, signatureBlob, reading, readBy, methodLists, endBefore, reads, readersAmong, readersFrom, signatureOf, signatureIn}
 use Rattle.record.proofs.Read.{method-row}
 use Rattle.rows.specs.Columns as columns
-use Rattle.rows.specs.Layout.{Laid, Ascends, rowsAt, cell, optionsIn, viewIn}
-use Rattle.rows.proofs.Laws.{rows-at}
+use Rattle.rows.specs.Layout.{Laid, Ascends, rowsAt, isMarked, cell, optionsIn, viewIn}
+use Rattle.rows.proofs.Laws.{rows-at, rows-narrow, marked-ascends}
 use Rattle.rows.proofs.Classes.{classes-are, methods-are, list-at}
 use Rattle.rendering.specs.Rendered.{Rendered}
 use Rattle.rendering.specs.declared.Rendering.{Rendering}
@@ -48,7 +48,7 @@ use Rattle.rendering.proofs.Laws.{rendered-done, rendered-failed}
 use Rattle.sig_leaves.specs.declared.Owner.the-variants.{Of}
 use Rattle.sig_leaves.proofs.Specs.{blob-some, blob-absent}
 use Rattle.signatures.specs.Environment.{envIn}
-use Rattle.method_signatures.specs.Signatures.{typesFrom, behind, ReadFrom, PastMethod, ReaderIs, ReadingIs, read, missing}
+use Rattle.method_signatures.specs.Signatures.{typesFrom, behind, ReadFrom, PastMethod, ReaderIs, FirstIn, NextIn, ReadingIs, read, missing}
 use Rattle.method_signatures.specs.declared.ClassReader.{ClassReader}
 use Rattle.method_signatures.specs.declared.ClassReader.the-variants.{By, Nobody}
 use Rattle.method_signatures.specs.declared.Reading.{Reading}
@@ -77,6 +77,10 @@ module _ (type : Reader Text) where
   types-length (suc n) s at = ap suc (types-length n s (type s at .next))
 
 -- ---- A class's reading
+
+-- A method's row, counted from 1, fits a word.
+pub method-narrow : {t l : List ℕ} → Laid t l → (m : ℕ) → m < rowsAt l columns.methodSignature → m + 1 < 4294967296
+method-narrow laid m h = omega (arith, rows-narrow laid columns.methodSignature (omega arith))
 
 module _ (e : Env) (s : List ℕ) where
   signature-read : {n first next : ℕ} {t : Text} → someAt n first ≡ methodStart s 0 → type e levels s first .got ≡ some t → type e levels s first .next ≡ next
@@ -456,45 +460,140 @@ module _ {t l : List ℕ} (laid : Laid t l) (strings heap : List ℕ) where
             λ k. subst (λ (x : ℕ). m + 1 < x) (its-list m z h read _ (class .0) first inv) (omega arith),
           )
 
-pub reader-is : (v : View) (m c : ℕ) {r r′ : ClassReader} → ReaderIs v m c r → r ≡ r′ → ReaderIs v m c r′
-reader-is v m c h e = subst (ReaderIs v m c) e h
+-- ---- Who reads a method, by the mode
 
--- A reading that fails leaves it to the classes behind.
-unfoldable pub standing : View → ℕ → ℕ → Option Signature
-standing v m c = firstThere (map (readBy v m) (readersFrom v m c))
+-- The classes from c on that read method m: in the mode of the taker class c alone.
+unfoldable pub readersIn : View → ℕ → ℕ → List ℕ
+readersIn v m c = cond (v .taker) (c ∷ []) (readersFrom v m c)
+
+-- Those behind the first of them, where the others are from class c on.
+unfoldable pub othersIn : View → ℕ → ℕ → List ℕ
+othersIn v m c = cond (v .taker) [] (readersFrom v m c)
+
+-- By what the code tests.
+module _ (v : View) (m : ℕ) {mode : Bool} (e : mode ≡ v .taker) where
+  not-both : {A : Type 0} → v .taker ≡ true → v .taker ≡ false → A
+  not-both f g = absurd (subst T (sym f ∙ g) tt)
+
+  pub first-taker : mode ≡ true → (c : ℕ) → FirstIn v c m c
+  first-taker f c = (λ _. refl, λ g. not-both (sym e ∙ f) g)
+
+  pub first-any : mode ≡ false → (c : ℕ) {first : ℕ} → ReadFrom v m first → FirstIn v c m first
+  first-any f c from = (λ g. not-both g (sym e ∙ f), λ _. from)
+
+  pub next-taker : mode ≡ true → (class : ClassNumber) → NextIn v m class (By class class)
+  next-taker f class = (λ _. refl, λ g. not-both (sym e ∙ f) g)
+
+  pub next-any : mode ≡ false → {class : ClassNumber} {r : ClassReader} → ReaderIs v m (class .0) r → NextIn v m class r
+  next-any f is = (λ g. not-both g (sym e ∙ f), λ _. is)
 
 module _ (v : View) (m : ℕ) where
-  pub standing-all : (c : ℕ) → ReadFrom v m c → signatureOf v m ≡ standing v m c
+  module _ (e : v .taker ≡ true) (c : ℕ) where
+    pub itself : readersIn v m c ≡ c ∷ []
+    unfolding readersIn
+    itself = rw e
+
+    no-others : othersIn v m c ≡ []
+    unfolding othersIn
+    no-others = rw e
+
+  module _ (e : v .taker ≡ false) (c : ℕ) where
+    pub each : readersIn v m c ≡ readersFrom v m c
+    unfolding readersIn
+    each = rw e
+
+    others : othersIn v m c ≡ readersFrom v m c
+    unfolding othersIn
+    others = rw e
+
+  module _ {class : ClassNumber} {r : ClassReader} (next : NextIn v m class r) where
+    pub read-next : {reader after : ClassNumber} → r ≡ By reader after → readersIn v m (class .0) ≡ reader .0 ∷ othersIn v m (after .0)
+    read-next {reader} {after} is = by-mode (v .taker) refl
+      where
+        by-mode : (b : Bool) → v .taker ≡ b → readersIn v m (class .0) ≡ reader .0 ∷ othersIn v m (after .0)
+        by-mode true e =
+            let same : class ≡ reader = cc (next .0 e) in
+            rw (itself e (class .0), no-others e (after .0), same)
+        by-mode false e = rw (each e (class .0), others e (after .0)) (subst (ReaderIs v m (class .0)) is (next .1 e) .2)
+
+    pub read-by-none : r ≡ Nobody → readersIn v m (class .0) ≡ []
+    read-by-none is = by-mode (v .taker) refl
+      where
+        by-mode : (b : Bool) → v .taker ≡ b → readersIn v m (class .0) ≡ []
+        by-mode true e = let z : _≡_ {A = ℕ} 0 1 = cc (next .0 e) in absurd (omega arith)
+        by-mode false e = each e (class .0) ∙ subst (ReaderIs v m (class .0)) is (next .1 e)
+
+-- Whether it is known that one class at most reads the method.
+module _ {t l : List ℕ} (laid : Laid t l) (strings heap : List ℕ) (m : ℕ)
+    {once : Bool} (is-once : once ≡ (viewIn t l strings heap .taker || isMarked l columns.methodList)) where
+  abbrev x : View
+  x = viewIn t l strings heap
+
+  module _ (more : once ≡ false) where
+    none-takes : x .taker ≡ false
+    none-takes = by-mode (x .taker) refl
+      where
+        by-mode : (b : Bool) → x .taker ≡ b → x .taker ≡ false
+        by-mode true e = absurd (subst T (sym (rw e at is-once) ∙ more) tt)
+        by-mode false e = e
+
+    pub others-on : (c : ℕ) → othersIn x m c ≡ readersIn x m c
+    others-on c = others x m none-takes c ∙ sym (each x m none-takes c)
+
+  module _ {class reader after : ClassNumber} {r : ClassReader} (next : NextIn x m class r) (is : r ≡ By reader after) where
+    pub reads-on : once ≡ false → (class .0 < after .0) × (after .0 ≤ classes x)
+    reads-on more = let found = subst (ReaderIs x m (class .0)) is (next .1 (none-takes more)) in (found .0, found .1)
+
+    pub alone-reads : once ≡ true → othersIn x m (after .0) ≡ []
+    alone-reads sure = by-mode (x .taker) refl
+      where
+        by-mode : (b : Bool) → x .taker ≡ b → othersIn x m (after .0) ≡ []
+        by-mode true e = no-others x m e (after .0)
+        by-mode false e =
+            let up = marked-ascends laid columns.methodList (omega arith) (rw e at is-once) sure in
+            others x m e (after .0) ∙ past-none laid strings heap up m (after .0) (subst (ReaderIs x m (class .0)) is (next .1 e) .3)
+
+-- ---- Whose reading stands
+
+-- The first of these classes whose reading succeeds: one that fails leaves it to those behind.
+unfoldable pub standing : View → ℕ → List ℕ → Option Signature
+standing v m l = firstThere (map (readBy v m) l)
+
+module _ (v : View) (m : ℕ) where
+  last-stands : {A : Type 0} (o : Option A) → firstThere (o ∷ []) ≡ o
+  last-stands none = refl
+  last-stands (some a) = refl
+
+  taker-reads : v .taker ≡ true → (c : ℕ) → signatureIn v c m ≡ readBy v m c
+  unfolding signatureIn
+  taker-reads e c = rw e
+
+  any-reads : v .taker ≡ false → (c : ℕ) → signatureIn v c m ≡ signatureOf v m
+  unfolding signatureIn
+  any-reads e c = rw e
+
+  signature-stands : (c first : ℕ) → FirstIn v c m first → signatureIn v c m ≡ standing v m (readersIn v m first)
   unfolding signatureOf standing
-  standing-all c e = ap (λ (l : List ℕ). firstThere (map (readBy v m) l)) e
+  signature-stands c first is = by-mode (v .taker) refl
+    where
+      by-mode : (b : Bool) → v .taker ≡ b → signatureIn v c m ≡ standing v m (readersIn v m first)
+      by-mode true e = taker-reads e c ∙ rw (itself v m e first, is .0 e) (sym (last-stands (readBy v m c)))
+      by-mode false e = any-reads e c ∙ rw (each v m e first, ← (is .1 e))
 
-  pub standing-none : (c : ℕ) → readersFrom v m c ≡ [] → standing v m c ≡ none
+  pub nobody-stands : {l : List ℕ} → l ≡ [] → standing v m l ≡ none
   unfolding standing
-  standing-none c e = rw e
+  nobody-stands e = rw e
 
-  module _ (c reader next : ℕ) (from : signatureOf v m ≡ standing v m c) (is : readersFrom v m c ≡ reader ∷ readersFrom v m next) where
-    pub reader-stands : (s : Signature) → readBy v m reader ≡ some s → signatureOf v m ≡ some s
+  module _ {l : List ℕ} {reader : ℕ} {others : List ℕ} (is : l ≡ reader ∷ others) where
+    pub reader-stands : (s : Signature) → readBy v m reader ≡ some s → standing v m l ≡ some s
     unfolding standing
-    reader-stands s e = from ∙ rw (is, e)
+    reader-stands s e = rw (is, e)
 
-    pub reader-fails : readBy v m reader ≡ none → signatureOf v m ≡ standing v m next
+    pub reader-fails : readBy v m reader ≡ none → standing v m l ≡ standing v m others
     unfolding standing
-    reader-fails e = from ∙ rw (is, e)
+    reader-fails e = rw (is, e)
 
--- ---- Whose reading stands, by the mode
-
-module _ (v : View) (c m : ℕ) {mode : Bool} (e : mode ≡ v .taker) where
-  taker-reads : mode ≡ true → signatureIn v c m ≡ readBy v m c
-  unfolding signatureIn
-  taker-reads f = rw (sym e ∙ f)
-
-  any-reads : mode ≡ false → signatureIn v c m ≡ signatureOf v m
-  unfolding signatureIn
-  any-reads f = rw (sym e ∙ f)
-
-  module _ {heap b b′ : List ℕ} {at : ℕ} {r : Reading} where
-    pub taker-stands : mode ≡ true → ReadingIs v heap m (readBy v m c) b at b′ r → ReadingIs v heap m (signatureIn v c m) b at b′ r
-    taker-stands f h = subst (λ (s : Option Signature). ReadingIs v heap m s b at b′ r) (sym (taker-reads f)) h
-
-    pub any-stands : mode ≡ false → ReadingIs v heap m (signatureOf v m) b at b′ r → ReadingIs v heap m (signatureIn v c m) b at b′ r
-    any-stands f h = subst (λ (s : Option Signature). ReadingIs v heap m s b at b′ r) (sym (any-reads f)) h
+-- A reading by all of them is that of the method, which class c takes.
+pub reading-in : {v : View} {heap : List ℕ} {m : ℕ} (c : ℕ) {first : ℕ} → FirstIn v c m first → {b b′ : List ℕ} {at : ℕ} {r : Reading}
+    → ReadingIs v heap m (standing v m (readersIn v m first)) b at b′ r → ReadingIs v heap m (signatureIn v c m) b at b′ r
+reading-in {v} {heap} {m} c {first} is {b} {b′} {at} {r} = subst (λ (s : Option Signature). ReadingIs v heap m s b at b′ r) (sym (signature-stands v m c first is))

@@ -1,9 +1,10 @@
 -- What the readings of a method's signature take of the steps, reader by reader. Assumes nothing.
-use mathlib.Core.Path.{_≡_, refl, sym, ap, subst, _∙_}
+use mathlib.Core.Path.{_≡_, refl, sym, ap, subst}
 use mathlib.Core.Bool.{Bool, true, false, _||_}
 use mathlib.Core.List.{List, [], _∷_, map}
 use Prim.Native.Nat.{ℕ, _+_, _*_, _≤_, _<_}
 use lib.ListN.{length}
+use native.Mathlib.Nat.{add-zero}
 use native.Mathlib.Omega.{arith}
 use Rattle.numbers.specs.Reading.{Res}
 use Rattle.numbers.specs.Parts.{part}
@@ -27,8 +28,8 @@ use Rattle.steps.proofs.Laws.{takes-left, takes-spent}
 use Rattle.passing.specs.Passing.{Passes, leftOf, Suffices}
 use Rattle.passing.specs.declared.Passed.{Passed}
 use Rattle.passing.proofs.Laws.{passes-takes}
-use Rattle.method_signatures.specs.Signatures.{ReadFrom}
-use Rattle.method_signatures.proofs.Laws.{unread-blob, read-part, few-readers}
+use Rattle.method_signatures.specs.Signatures.{FirstIn}
+use Rattle.method_signatures.proofs.Laws.{unread-blob, read-part, few-readers, readersIn, itself, each}
 
 -- ---- A class's reading
 
@@ -55,51 +56,55 @@ module _ {t l : List ℕ} (laid : Laid t l) (strings heap : List ℕ) (m c : ℕ
 
 -- ---- All of them
 
--- The steps of the classes from c on.
-unfoldable pub stepsFrom : View → ℕ → ℕ → ℕ
-stepsFrom v m c = total (map (readSteps v m) (readersFrom v m c))
+-- The steps of these classes.
+unfoldable pub stepsBy : View → ℕ → List ℕ → ℕ
+stepsBy v m l = total (map (readSteps v m) l)
 
--- So many are left for the classes from c on.
-pub record Paying (v : View) (m steps c have : ℕ) : Type 0 where
-  pub paid : methodSteps v m + have ≡ stepsFrom v m c + steps
+-- Of the steps for all these classes so many are left for the rest of them.
+pub record Paying (v : View) (m : ℕ) (all : List ℕ) (steps : ℕ) (rest : List ℕ) (have : ℕ) : Type 0 where
+  pub paid : stepsBy v m all + have ≡ stepsBy v m rest + steps
 
-module _ (v : View) (m steps : ℕ) where
-  pub pay-start : (c : ℕ) → ReadFrom v m c → Paying v m steps c steps
-  unfolding stepsFrom methodSteps
-  pay-start c e = record { paid = ap (λ (l : List ℕ). total (map (readSteps v m) l) + steps) e }
+module _ (v : View) (m : ℕ) where
+  pub pay-start : (l : List ℕ) (steps : ℕ) → Paying v m l steps l steps
+  pay-start l steps = record { paid = refl }
 
-  pub pay-end : {c have : ℕ} → Paying v m steps c have → readersFrom v m c ≡ [] → Takes (methodSteps v m) steps (Left have)
-  unfolding stepsFrom
-  pay-end {c} {have} pays e = let none : stepsFrom v m c ≡ 0 = rw e in left {rest = have} (omega (arith, pays .paid, none))
+  module _ {all : List ℕ} {steps : ℕ} {l : List ℕ} {have : ℕ} (pays : Paying v m all steps l have) where
+    pub pay-end : l ≡ [] → Takes (stepsBy v m all) steps (Left have)
+    unfolding stepsBy
+    pay-end e = let none : stepsBy v m l ≡ 0 = rw e in left {rest = have} (omega (arith, pays .paid, none))
 
-  module _ {c : ℕ} (reader next : ℕ) {have : ℕ} (pays : Paying v m steps c have) (is : readersFrom v m c ≡ reader ∷ readersFrom v m next)
-      {r : Steps} (takes : Takes (readSteps v m reader) have r) where
-    one-more : stepsFrom v m c ≡ readSteps v m reader + stepsFrom v m next
-    unfolding stepsFrom
-    one-more = rw is
+    module _ {reader : ℕ} {others : List ℕ} (is : l ≡ reader ∷ others) {r : Steps} (takes : Takes (readSteps v m reader) have r) where
+      one-more : stepsBy v m l ≡ readSteps v m reader + stepsBy v m others
+      unfolding stepsBy
+      one-more = rw is
 
-    pub pay-more : {k : ℕ} → r ≡ Left k → Paying v m steps next k
-    pay-more e = record { paid = omega (arith, pays .paid, one-more, takes-left takes e) }
+      pub pay-more : {k : ℕ} → r ≡ Left k → {rest : List ℕ} → others ≡ rest → Paying v m all steps rest k
+      pay-more e f = record { paid = omega (arith, pays .paid, one-more, takes-left takes e, ap (stepsBy v m) f) }
 
-    pub pay-spent : r ≡ Spent → Takes (methodSteps v m) steps Spent
-    pay-spent e = spent (omega (arith, pays .paid, one-more, takes-spent takes e))
+      pub pay-spent : r ≡ Spent → Takes (stepsBy v m all) steps Spent
+      pay-spent e = spent (omega (arith, pays .paid, one-more, takes-spent takes e))
 
 -- ---- Whose readings count, by the mode
 
-module _ (v : View) (c m : ℕ) {mode : Bool} (e : mode ≡ v .taker) where
-  taker-steps : mode ≡ true → stepsIn v c m ≡ readSteps v m c
+module _ (v : View) (c m : ℕ) where
+  taker-steps : v .taker ≡ true → stepsIn v c m ≡ readSteps v m c
   unfolding stepsIn
-  taker-steps f = rw (sym e ∙ f)
+  taker-steps e = rw e
 
-  any-steps : mode ≡ false → stepsIn v c m ≡ methodSteps v m
+  any-steps : v .taker ≡ false → stepsIn v c m ≡ methodSteps v m
   unfolding stepsIn
-  any-steps f = rw (sym e ∙ f)
+  any-steps e = rw e
 
-  pub taker-takes : mode ≡ true → {steps : ℕ} {r : Steps} → Takes (readSteps v m c) steps r → Takes (stepsIn v c m) steps r
-  taker-takes f {steps} {r} takes = subst (λ (n : ℕ). Takes n steps r) (sym (taker-steps f)) takes
+  counts : (first : ℕ) → FirstIn v c m first → stepsBy v m (readersIn v m first) ≡ stepsIn v c m
+  unfolding stepsBy methodSteps
+  counts first is = by-mode (v .taker) refl
+    where
+      by-mode : (b : Bool) → v .taker ≡ b → stepsBy v m (readersIn v m first) ≡ stepsIn v c m
+      by-mode true e = rw (itself v m e first, is .0 e, taker-steps e) (add-zero (readSteps v m c))
+      by-mode false e = rw (each v m e first, ← (is .1 e), any-steps e)
 
-  pub any-takes : mode ≡ false → {steps : ℕ} {r : Steps} → Takes (methodSteps v m) steps r → Takes (stepsIn v c m) steps r
-  any-takes f {steps} {r} takes = subst (λ (n : ℕ). Takes n steps r) (sym (any-steps f)) takes
+  pub takes-in : {first : ℕ} → FirstIn v c m first → {steps : ℕ} {r : Steps} → Takes (stepsBy v m (readersIn v m first)) steps r → Takes (stepsIn v c m) steps r
+  takes-in {first} is {steps} {r} = subst (λ (n : ℕ). Takes n steps r) (counts first is)
 
 -- ---- Where it is read at most once
 
@@ -121,10 +126,10 @@ module _ {t l : List ℕ} (laid : Laid t l) (strings heap : List ℕ) (m : ℕ)
   by-one each c = by-mode (w .taker) refl
     where
       by-mode : (b : Bool) → w .taker ≡ b → stepsIn w c m ≤ steps
-      by-mode true e = omega (arith, taker-steps w c m (sym e) refl, each c)
+      by-mode true e = omega (arith, taker-steps w c m e, each c)
       by-mode false e =
           let up = marked-ascends laid columns.methodList (omega arith) (rw e at is-once) yes in
-          omega (arith, any-steps w c m (sym e) refl, by-all up each)
+          omega (arith, any-steps w c m e, by-all up each)
 
   module _ (h : m < rowsAt l columns.methodSignature) {p : Part} {i : ℕ} (told : i ≡ cell t l columns.methodSignature m) (looked : p ≡ blobAt heap i) where
     pub blobless-fits : {why : Reason} → p ≡ Absent why → (c : ℕ) → stepsIn w c m ≤ steps

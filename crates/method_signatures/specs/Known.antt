@@ -3,7 +3,7 @@
 use mathlib.Core.Path.{_≡_}
 use mathlib.Core.List.{List, []}
 use mathlib.Core.Option.{Option}
-use Prim.Native.Nat.{ℕ, _+_, _-_, _≤_, _<_}
+use Prim.Native.Nat.{ℕ, _+_, _-_, _*_, _≤_, _<_}
 use lib.ListN.{length, drop}
 use Rattle.numbers.specs.Parts.{part}
 use Rattle.buffers.specs.Texts.{Text}
@@ -23,19 +23,22 @@ pub record Reads (v : View) (heap : List ℕ) (c m : ℕ) (k : Signature) : Type
   pub counted : k .count ≡ length (typesOf v c m)
   pub rest : drop (k .read) (typesOf v c m) ≡ typesFrom (typeBy v m (k .owner)) (k .count - k .read) (part heap (k .start) (k .len)) (k .next)
 
--- What is known is true of its own class and method, whose row counts from 1; of row 0 it says nothing.
+-- Class c and method m as one number, which is not 0: where a method's row, from 1, is below 4294967296, no other two have it.
+abbrev pub keyOf : ℕ → ℕ → ℕ
+keyOf c m = c * 4294967296 + m + 1
+
+-- What is known is true of the class and the method whose number it has; of number 0 it says nothing.
 pub record KnowsSignature (v : View) (heap : List ℕ) (k : Signature) : Type 0 where
-  pub signature : 0 < k .method → Reads v heap (k .taker .0) (k .method - 1) k
+  pub signature : (c m : ℕ) → m + 1 < 4294967296 → k .method ≡ keyOf c m → Reads v heap c m k
 
 -- It is about method m, which class c takes.
 pub record About (k : Signature) (c m : ℕ) : Type 0 where
-  pub taker : k .taker .0 ≡ c
-  pub method : k .method ≡ m + 1
+  pub narrow : m + 1 < 4294967296
+  pub method : k .method ≡ keyOf c m
 
 -- The same after one more type, whose end is at a position.
 abbrev pub readMore : Signature → ℕ → Signature
 readMore k next = record {
-  taker = k .taker;
   method = k .method;
   owner = k .owner;
   start = k .start;

@@ -1,14 +1,16 @@
 -- A method's signature (ECMA-335 II.23.2.1), read by a class as far as its return type. The types of its parameters are read on demand,
 -- from the position behind it.
 use mathlib.Core.Path.{_≡_}
+use mathlib.Core.Bool.{true, false}
 use mathlib.Core.List.{List, [], _∷_}
 use mathlib.Core.Option.{Option, none, some}
-use Prim.Native.Nat.{ℕ, zero, suc, _+_, _-_, _≤_, _<_}
+use Prim.Native.Nat.{ℕ, zero, suc, _+_, _≤_, _<_}
 use lib.ListN.{length}
 use Rattle.numbers.specs.Reading.{Reader}
 use Rattle.numbers.specs.Parts.{part}
 use Rattle.buffers.specs.Texts.{Text}
 use Rattle.buffers.specs.Writes.{Kept, Wrote}
+use Rattle.classes.specs.declared.ClassNumber.{ClassNumber}
 use Rattle.record.specs.Columns.{methodList}
 use Rattle.record.specs.View.{View}
 use Rattle.record.specs.Types.{type}
@@ -46,6 +48,14 @@ abbrev pub ReaderIs : View → ℕ → ℕ → ClassReader → Type 0
 ReaderIs v m c (By reader next) =
     (c < next .0) × (next .0 ≤ classes v) × (readersFrom v m c ≡ reader .0 ∷ readersFrom v m (next .0)) × PastMethod v m (next .0)
 ReaderIs v m c Nobody = readersFrom v m c ≡ []
+
+-- With which class the search for the readers of method m begins, by the mode: with c, which takes it; or with one before which none reads it.
+abbrev pub FirstIn : View → ℕ → ℕ → ℕ → Type 0
+FirstIn v c m first = (v .taker ≡ true → first ≡ c) × (v .taker ≡ false → ReadFrom v m first)
+
+-- Who reads method m next, by the mode: the class itself; or the first from it on that reads it.
+abbrev pub NextIn : View → ℕ → ClassNumber → ClassReader → Type 0
+NextIn v m class r = (v .taker ≡ true → r ≡ By class class) × (v .taker ≡ false → ReaderIs v m (class .0) r)
 
 -- From the buffer b to b′, r is the reading d of method m's signature: the return type was written at the place, and the parameters' types
 -- follow in that part of the blob heap, as that owner's class reads them; or there is no reading, and nothing before the place changed.

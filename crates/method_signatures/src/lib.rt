@@ -1,7 +1,7 @@
 // The signatures of methods (ECMA-335 II.23.2.1): whose reading of a method's signature stands (`finalize`, its first pass), the return
 // type that it finds, and the types of the parameters behind it. What is known of a signature goes in and out by value, so that the next
 // question about the same method goes on where the last one left off. It is true whatever is asked next: a question first looks whether
-// it is about the method that is meant, and the class that takes it, and else finds out anew.
+// it is about the method that is meant, and the class that takes it, by one number for both, and else finds out anew.
 use buffers::Place;
 use buffers::Reason;
 use buffers::Told;
@@ -27,15 +27,15 @@ ghost use Rattle.buffers.specs.Telling.{ToldIs};
 ghost use Rattle.record.specs.View.{View};
 ghost use Rattle.record.specs.Names.{levels};
 ghost use Rattle.record.specs.Types.{type};
-ghost use Rattle.record.specs.Methods.{readBy, readSteps, signatureOf, methodSteps, signatureIn, stepsIn, parameterName};
+ghost use Rattle.record.specs.Methods.{readBy, readSteps, signatureIn, stepsIn, parameterName};
 ghost use Rattle.record.specs.Record.{method};
 ghost use Rattle.record.specs.Answers.{_⟫_, item};
 ghost use Rattle.rows.specs.Columns as columns;
 ghost use Rattle.rows.specs.Layout.{Laid, rowsAt, isMarked, viewIn};
 ghost use Rattle.signatures.specs.Environment.{envIn};
 ghost use Rattle.steps.specs.Counting.{Takes};
-ghost use Rattle.method_signatures.specs.Signatures.{behind, ReadFrom, ReaderIs, ReadingIs};
-ghost use Rattle.method_signatures.specs.Known.{KnowsSignature, About, readMore};
+ghost use Rattle.method_signatures.specs.Signatures.{behind, FirstIn, ReaderIs, NextIn, ReadingIs};
+ghost use Rattle.method_signatures.specs.Known.{keyOf, KnowsSignature, About, readMore};
 
 // A method's signature as a class reads it: the class as an owner of generic parameters, where in the blob heap the signature stands, the
 // position behind the return type, the number of parameters, and the place behind the return type's text in the buffer.
@@ -53,9 +53,7 @@ pub enum Reading {
 
 // The signature of a method, as far as the types of some of its parameters have been read.
 pub struct Signature {
-    // the class that takes the method
-    pub taker: ClassNumber,
-    // the method's row, from 1; 0 where no signature is known
+    // the class that takes the method, and the method, as one number (`key_of`); 0 where no signature is known
     pub method: usize,
     // whose class reads it, as an owner of generic parameters, and where in the blob heap it stands
     pub owner: usize,
@@ -78,6 +76,9 @@ pub enum ClassReader {
     By(ClassNumber, ClassNumber),
     Nobody,
 }
+
+// More than any table has rows, so that the methods of one class are numbered apart from those of another.
+const METHODS: usize = 4_294_967_296;
 
 // A class's reading of method m's signature, with the return type at a place.
 fn read_by(
@@ -140,13 +141,16 @@ fn has_method(first: usize, end: usize, m: usize) -> bool
     first <= m && m < end
 }
 
-// A class before which none reads method m. Where MethodList is known to ascend, that is the class that has the method, if it begins at or
-// below m.
+// The class with which the search for the readers of method m begins: in the mode of the taker the one that takes it, and else one before
+// which none reads it. Where MethodList is known to ascend, that is the class that has the method, if it begins at or below m.
 fn first_reader(tables: &[u8], layout: &[u32], taker: ClassNumber, m: usize) -> ClassNumber
     requires { ⌜ Laid (now tables) (now layout) ⌝ }
     requires { ⌜ m < rowsAt (now layout) columns.methodSignature ⌝ }
-    ensures { λ r. ⌜ ((strings blob : List ℕ) → ReadFrom (viewIn (now (tables .entry)) (now (layout .entry)) strings blob) m (r .0)) ⌝ }
+    ensures { λ r. ⌜ ((strings blob : List ℕ) → FirstIn (viewIn (now (tables .entry)) (now (layout .entry)) strings blob) (taker .0) m (r .0)) ⌝ }
 {
+    if rows::is_taker(layout) {
+        return taker;
+    }
     if rows::is_marked(layout, columns::METHOD_LIST) {
         let place = classes::place_of(taker);
         if place < rows::count_rows(layout, columns::METHOD_LIST) {
@@ -188,9 +192,21 @@ fn next_reader(tables: &[u8], layout: &[u32], m: usize, from: ClassNumber) -> Cl
     ClassReader::Nobody
 }
 
-// The signature of method m where every class may read it, with the return type at a place: of those that do, the lowest whose reading
-// succeeds.
-fn read_by_any(
+// The same by the mode: in that of the taker the class itself reads the method, and no other does.
+fn next_in_mode(tables: &[u8], layout: &[u32], m: usize, class: ClassNumber) -> ClassReader
+    requires { ⌜ Laid (now tables) (now layout) ⌝ }
+    requires { ⌜ m < rowsAt (now layout) columns.methodSignature ⌝ }
+    ensures { λ r. ⌜ ((strings blob : List ℕ) → NextIn (viewIn (now (tables .entry)) (now (layout .entry)) strings blob) m class r) ⌝ }
+{
+    if rows::is_taker(layout) {
+        return ClassReader::By(class, class);
+    }
+    next_reader(tables, layout, m, class)
+}
+
+// The signature of method m, which that class takes, with the return type at a place: of the classes that read it by the mode, the lowest
+// whose reading succeeds. Where it is known to be read at most once, none is sought behind the first.
+fn read_signature(
     buf: &mut [u8],
     at: usize,
     tables: &[u8],
@@ -203,12 +219,12 @@ fn read_by_any(
     requires { ⌜ Laid (now tables) (now layout) ⌝ }
     requires { ⌜ m < rowsAt (now layout) columns.methodSignature ⌝ }
     ensures { λ r. let v = viewIn (now (tables .entry)) (now (layout .entry)) (now (strings .entry)) (now (blob .entry)) in
-        ⌜ ReadingIs v (now (blob .entry)) m (signatureOf v m) (now (buf .entry)) at (now (buf .exit)) r ⌝ }
+        ⌜ ReadingIs v (now (blob .entry)) m (signatureIn v (taker .0) m) (now (buf .entry)) at (now (buf .exit)) r ⌝ }
 {
-    let n = rows::count_rows(layout, columns::METHOD_LIST);
+    let alone = is_read_once(layout);
     let mut class = first_reader(tables, layout, taker, m);
-    while classes::place_of(class) < n {
-        match next_reader(tables, layout, m, class) {
+    loop {
+        match next_in_mode(tables, layout, m, class) {
             ClassReader::By(reader, after) => {
                 match read_by(buf, at, tables, strings, blob, layout, m, reader) {
                     Reading::Read {
@@ -229,6 +245,9 @@ fn read_by_any(
                         };
                     }
                     Reading::Missing => {
+                        if alone {
+                            return Reading::Missing;
+                        }
                         class = after;
                     }
                 }
@@ -238,29 +257,6 @@ fn read_by_any(
             }
         }
     }
-    Reading::Missing
-}
-
-// The signature of method m, which that class takes, with the return type at a place.
-fn read_signature(
-    buf: &mut [u8],
-    at: usize,
-    tables: &[u8],
-    strings: &[u8],
-    blob: &[u8],
-    layout: &[u32],
-    taker: ClassNumber,
-    m: usize,
-) -> Reading
-    requires { ⌜ Laid (now tables) (now layout) ⌝ }
-    requires { ⌜ m < rowsAt (now layout) columns.methodSignature ⌝ }
-    ensures { λ r. let v = viewIn (now (tables .entry)) (now (layout .entry)) (now (strings .entry)) (now (blob .entry)) in
-        ⌜ ReadingIs v (now (blob .entry)) m (signatureIn v (taker .0) m) (now (buf .entry)) at (now (buf .exit)) r ⌝ }
-{
-    if rows::is_taker(layout) {
-        return read_by(buf, at, tables, strings, blob, layout, m, taker);
-    }
-    read_by_any(buf, at, tables, strings, blob, layout, taker, m)
 }
 
 // How many parameters method m has. The text of its return type goes to a buffer of one byte, since only its length is counted.
@@ -329,12 +325,19 @@ fn skip_types(
     p
 }
 
+// The class that takes a method, and the method, as one number, which is not 0: no other two have it.
+fn key_of(taker: ClassNumber, m: usize) -> usize
+    requires { ⌜ m + 1 < 4294967296 ⌝ }
+    ensures { λ r. ⌜ r ≡ keyOf (taker .0) m ⌝ }
+{
+    wide(taker.0) * METHODS + m + 1
+}
+
 // No signature is known.
 pub fn no_signature() -> Signature
     ensures { λ r. ⌜ ((v : View) (heap : List ℕ) → KnowsSignature v heap r) ⌝ }
 {
     Signature {
-        taker: ClassNumber(0),
         method: 0,
         owner: 0,
         start: 0,
@@ -347,13 +350,12 @@ pub fn no_signature() -> Signature
 
 // Method m is known to have no signature: no types, however many have been read.
 fn unread_signature(taker: ClassNumber, m: usize, read: usize) -> Signature
-    requires { ⌜ m < 4294967296 ⌝ }
+    requires { ⌜ m + 1 < 4294967296 ⌝ }
     ensures { λ r.
         ⌜ ((v : View) (heap : List ℕ) → signatureIn v (taker .0) m ≡ none → KnowsSignature v heap r) × About r (taker .0) m × (r .read ≡ read) ⌝ }
 {
     Signature {
-        taker,
-        method: m + 1,
+        method: key_of(taker, m),
         owner: 0,
         start: 0,
         len: 0,
@@ -390,8 +392,7 @@ pub fn tell_return_type(
             end,
         } => {
             let signature = Signature {
-                taker,
-                method: m + 1,
+                method: key_of(taker, m),
                 owner,
                 start,
                 len,
@@ -442,8 +443,7 @@ fn find_signature(
         } => {
             if count <= p {
                 return Signature {
-                    taker,
-                    method: m + 1,
+                    method: key_of(taker, m),
                     owner,
                     start,
                     len,
@@ -466,8 +466,7 @@ fn find_signature(
                 read,
             );
             Signature {
-                taker,
-                method: m + 1,
+                method: key_of(taker, m),
                 owner,
                 start,
                 len,
@@ -482,17 +481,10 @@ fn find_signature(
 
 // Whether what is known is about method m, which that class takes.
 fn is_about(known: Signature, taker: ClassNumber, m: usize) -> bool
-    requires { ⌜ m < 4294967296 ⌝ }
+    requires { ⌜ m + 1 < 4294967296 ⌝ }
     ensures { λ r. ⌜ (r ≡ true → About known (taker .0) m) ⌝ }
 {
-    let class = known.taker;
-    if class.0 != taker.0 {
-        return false;
-    }
-    if known.method == m + 1 {
-        return true;
-    }
-    false
+    known.method == key_of(taker, m)
 }
 
 // The same, by what is known.
@@ -547,9 +539,7 @@ fn read_more(known: Signature, after: usize) -> Signature
     requires { ⌜ known .read < 4294967296 ⌝ }
     ensures { λ r. ⌜ r ≡ readMore known after ⌝ }
 {
-    let taker = known.taker;
     Signature {
-        taker,
         method: known.method,
         owner: known.owner,
         start: known.start,
@@ -568,16 +558,17 @@ fn tell_next_type(
     strings: &[u8],
     blob: &[u8],
     layout: &[u32],
+    taker: ClassNumber,
     m: usize,
     p: u32,
     known: Signature,
 ) -> Typed
     requires { ⌜ Laid (now tables) (now layout) ⌝ }
     requires { ⌜ m < rowsAt (now layout) columns.methodSignature ⌝ }
-    requires { ⌜ KnowsSignature (viewIn (now tables) (now layout) (now strings) (now blob)) (now blob) known × (known .method ≡ m + 1) ×
+    requires { ⌜ KnowsSignature (viewIn (now tables) (now layout) (now strings) (now blob)) (now blob) known × About known (taker .0) m ×
         (known .read ≡ p) ⌝ }
     ensures { λ r. let v = viewIn (now (tables .entry)) (now (layout .entry)) (now (strings .entry)) (now (blob .entry)) in
-        ⌜ ToldIs (item (method v (known .taker .0) m .parameters) p ⟫ (λ k. nameOr5 (k .type))) (now (buf .entry)) at (now (buf .exit)) (r .told) ×
+        ⌜ ToldIs (item (method v (taker .0) m .parameters) p ⟫ (λ k. nameOr5 (k .type))) (now (buf .entry)) at (now (buf .exit)) (r .told) ×
         KnowsSignature v (now (blob .entry)) (r .signature) ⌝ }
 {
     if known.count <= known.read {
@@ -632,7 +623,18 @@ pub fn tell_param_type(
         KnowsSignature v (now (blob .entry)) (r .signature) ⌝ }
 {
     let signature = signature_at(tables, strings, blob, layout, taker, m, p, known);
-    tell_next_type(buf, at, tables, strings, blob, layout, m, p, signature)
+    tell_next_type(
+        buf,
+        at,
+        tables,
+        strings,
+        blob,
+        layout,
+        taker,
+        m,
+        p,
+        signature,
+    )
 }
 
 // Append the name of parameter p of method m (II.22.33, `parse_params`): none where the method has no ParamList column.
@@ -743,8 +745,9 @@ fn pass_by(
     }
 }
 
-// What all readings of method m's signature take of the steps where every class may read it. Where MethodList is known to ascend one does.
-fn pass_by_all(
+// What the readings of method m's signature take of the steps, where that class takes the method: those of all classes that read it by the
+// mode. Where it is known to be read at most once, none is sought behind the first.
+pub fn pass_readings(
     tables: &[u8],
     strings: &[u8],
     blob: &[u8],
@@ -756,14 +759,13 @@ fn pass_by_all(
     requires { ⌜ Laid (now tables) (now layout) ⌝ }
     requires { ⌜ m < rowsAt (now layout) columns.methodSignature ⌝ }
     ensures { λ r. let v = viewIn (now (tables .entry)) (now (layout .entry)) (now (strings .entry)) (now (blob .entry)) in
-        ⌜ Takes (methodSteps v m) steps r ⌝ }
+        ⌜ Takes (stepsIn v (taker .0) m) steps r ⌝ }
 {
-    let n = rows::count_rows(layout, columns::METHOD_LIST);
-    let alone = rows::is_marked(layout, columns::METHOD_LIST);
+    let alone = is_read_once(layout);
     let mut class = first_reader(tables, layout, taker, m);
     let mut have = steps;
-    while classes::place_of(class) < n {
-        match next_reader(tables, layout, m, class) {
+    loop {
+        match next_in_mode(tables, layout, m, class) {
             ClassReader::By(reader, after) => {
                 match pass_by(tables, strings, blob, layout, m, reader, have) {
                     Steps::Left(left) => {
@@ -783,28 +785,6 @@ fn pass_by_all(
             }
         }
     }
-    Steps::Left(have)
-}
-
-// What the readings of method m's signature take of the steps, where that class takes the method.
-pub fn pass_readings(
-    tables: &[u8],
-    strings: &[u8],
-    blob: &[u8],
-    layout: &[u32],
-    taker: ClassNumber,
-    m: usize,
-    steps: u64,
-) -> Steps
-    requires { ⌜ Laid (now tables) (now layout) ⌝ }
-    requires { ⌜ m < rowsAt (now layout) columns.methodSignature ⌝ }
-    ensures { λ r. let v = viewIn (now (tables .entry)) (now (layout .entry)) (now (strings .entry)) (now (blob .entry)) in
-        ⌜ Takes (stepsIn v (taker .0) m) steps r ⌝ }
-{
-    if rows::is_taker(layout) {
-        return pass_by(tables, strings, blob, layout, m, taker, steps);
-    }
-    pass_by_all(tables, strings, blob, layout, taker, m, steps)
 }
 
 // Whether each method that a class takes is known to be read at most once.

@@ -1,7 +1,5 @@
 use mathlib.Core.Path.{_∙_}
-use native.Mathlib.Omega.{arith}
-use Rattle.rows.specs.Columns as columns
-use Rattle.rows.proofs.Laws.{rows-narrow}
+use Rattle.method_signatures.proofs.Laws.{method-narrow}
 use borrow.Author.Needs.{needs}
 use Rattle.method_signatures.proofs.signature_at.Statement.{statement}
 use Rattle.method_signatures.proofs.signature_at.Tie as tie
@@ -15,7 +13,7 @@ use Rattle.numbers.proofs.wide.Reads as wide-reads
 is-about-requires : tie.Need-is-about-requires
 is-about-requires c κs =
     let start = c .before .before .before .before in
-    omega (arith, start .pre .1 .0, rows-narrow (start .pre .0) columns.methodSignature (omega arith))
+    method-narrow (start .pre .0) (start .args .m) (start .pre .1 .0)
 
 -- src/lib.rt:516:26
 wide-requires : tie.Need-wide-requires

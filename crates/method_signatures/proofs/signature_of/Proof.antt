@@ -1,6 +1,4 @@
-use native.Mathlib.Omega.{arith}
-use Rattle.rows.specs.Columns as columns
-use Rattle.rows.proofs.Laws.{rows-narrow}
+use Rattle.method_signatures.proofs.Laws.{method-narrow}
 use borrow.Author.Needs.{needs}
 use Rattle.method_signatures.proofs.signature_of.Statement.{statement}
 use Rattle.method_signatures.proofs.signature_of.Tie as tie
@@ -13,7 +11,7 @@ use Rattle.method_signatures.proofs.is_about.Reads as is-about-reads
 is-about-requires : tie.Need-is-about-requires
 is-about-requires c κs =
     let start = c .before .before .before .before in
-    omega (arith, start .pre .1 .0, rows-narrow (start .pre .0) columns.methodSignature (omega arith))
+    method-narrow (start .pre .0) (start .args .m) (start .pre .1 .0)
 
 -- src/lib.rt:540:9
 returns : tie.Need-returns
