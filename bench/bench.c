@@ -5,8 +5,9 @@
      bench INPUT LISTING
      bench TIMES INPUT LISTING   makes only the Rust's listing of the part that we take, so many times, for bench/growth.py
 
-   INPUT is a file of the listing program's form, and the listing is written to LISTING. Exit status: 0, or 1 where the listings differ,
-   or 2 where a file cannot be read or written. */
+   INPUT is a file of the listing program's form, and the listing is written to LISTING. The Rust's are compared with ours without the lines
+   packing= and size= behind each flags=, which it does not have (2026-12). Exit status: 0, or 1 where the listings differ, or 2 where a file
+   cannot be read or written. */
 #include <fcntl.h>
 #include <sys/types.h>
 #include <unistd.h>
@@ -29,7 +30,7 @@ ssize_t getrandom(void *to, size_t n, unsigned flags) {
 }
 
 static uint8_t other_text[ROOM];
-static char our_text[ROOM];
+static char our_text[ROOM], rust_text[ROOM]; /* our listing, and without the lines that the Rust does not have */
 static struct input in;
 
 static size_t read_all(int file, uint8_t *to, size_t room) {
@@ -83,10 +84,33 @@ dn_section measure_section(void) {
 
 /* ---- the order of it */
 
-static void compare(size_t length, const struct listing *ours) {
-    if (length == ours->length && !memcmp(other_text, our_text, length)) return;
+static void differ(void) {
     fprintf(stderr, "bench: the listings differ\n");
     exit(1);
+}
+
+static void compare(size_t length, const char *text, size_t expected) {
+    if (length != expected || memcmp(other_text, text, length)) differ();
+}
+
+/* The length of the line at a place of our listing, which must begin so. */
+static size_t line_at(size_t at, size_t end, const char *key) {
+    const char *line = our_text + at, *last = memchr(line, '\n', end - at);
+    if (!last || (size_t)(last - line) < strlen(key) || memcmp(line, key, strlen(key))) differ();
+    return (size_t)(last - line) + 1;
+}
+
+/* Leaves out the two lines behind each flags=, and nothing else. */
+static size_t drop_layouts(size_t length) {
+    size_t kept = 0;
+    for (size_t at = 0, n; at < length; at += n) {
+        n = line_at(at, length, "");
+        memcpy(rust_text + kept, our_text + at, n), kept += n;
+        if (n < 6 || memcmp(our_text + at, "flags=", 6)) continue;
+        n += line_at(at + n, length, "packing=");
+        n += line_at(at + n, length, "size=");
+    }
+    return kept;
 }
 
 static void fail(const char *what) {
@@ -101,13 +125,14 @@ static size_t all_listings(int input, int output) {
     measure_listing(&listing);
     printf("pieces\n");
     if (lseek(input, 0, SEEK_SET) || !measure_pieces(input, output) || lseek(output, 0, SEEK_SET)) fail("the listing cannot be written");
-    compare(read_all(output, other_text, ROOM), &listing);
+    compare(read_all(output, other_text, ROOM), our_text, listing.length);
+    size_t kept = drop_layouts(listing.length);
     rust_fields(in.tables, in.strings, in.blob, other_text, ROOM);
     printf("fair\n");
-    compare(measure_fair(), &listing);
+    compare(measure_fair(), rust_text, kept);
     rust_values(in.tables, in.strings, in.blob, other_text, ROOM);
     printf("values\n");
-    compare(measure_values(), &listing);
+    compare(measure_values(), rust_text, kept);
     return listing.length;
 }
 

@@ -1,5 +1,7 @@
 """Inputs that name one thing over and over, each also with a half and a quarter of the lines, and what ours and the Rust take. A listing
-that finds each base type of a class or each parameter of a method from the beginning takes the square.
+that finds each base type of a class, each parameter of a method or the ClassLayout row of each class from the beginning takes the square.
+The Rust does not read ClassLayout (2026-12): inputs with a star have it, the ratios of these are to a listing without packing and size, and
+say nothing of who is quicker.
 
 Instructions are counted by callgrind, up to an end: a listing that takes the square would take hours. So the processor's time is measured
 too, the least of three where it is short. For the Rust it is user time, of as many listings in one process as make it long enough: to give
@@ -9,11 +11,13 @@ our favour."""
 import concurrent.futures
 import math
 import os
+import re
 import resource
 import subprocess
 
+import layouts
 from archive import fail
-from assembly import INTERFACE_IMPL, METHOD_DEF, TYPE_DEF, TYPE_SPEC, Assembly, bundle
+from assembly import CLASS_LAYOUT, GENERIC_PARAM, INTERFACE_IMPL, METHOD_DEF, NESTED_CLASS, TYPE_DEF, TYPE_SPEC, Assembly, bundle
 from counting import Run
 from dice import Dice, shortest
 
@@ -26,7 +30,7 @@ NAMED_SPEC = b"\x12" + shortest(FIRST_SPEC)
 INT, VOID = b"\x08", b"\x01"
 
 
-# The inputs: one class, whose name is the only one there is.
+# The inputs: one class, or many that are alike, whose name is the only one there is.
 
 def interfaces(count):
     """All implemented interfaces are one TypeSpec, of 30 bytes."""
@@ -53,10 +57,30 @@ def instance(arguments):
     return b"\x15\x12" + shortest(2 << 2) + shortest(arguments) + INT * arguments
 
 
-def with_class(rows, spec, signature):
+def laid_out(classes):
+    """A ClassLayout row for each class, in their order, as the standard has them."""
+    return with_layouts(range(classes))
+
+
+def laid_out_shuffled(classes):
+    return with_layouts(Dice(1, 0).shuffled(range(classes)))
+
+
+def beside_others(rows):
+    """For every second class, and a row in each other side table: so the listing wants more words to work in than for any of the above."""
+    others = {INTERFACE_IMPL: [[2, FIRST_SPEC]], NESTED_CLASS: [[3, 2]], GENERIC_PARAM: [[0, 0, 2 << 1, 1]]}
+    return with_layouts(Dice(1, 0).shuffled(range(0, 2 * rows, 2)), 2 * rows, others)
+
+
+def with_layouts(parents, classes=None, others=None):
+    rows = [[4, 16, c + layouts.CLASS_ROW] for c in parents]
+    return with_class({CLASS_LAYOUT: rows, **(others or {})}, INT, b"", classes or len(rows))
+
+
+def with_class(rows, spec, signature, classes=1):
     """The signature stands at 1 of the blob heap, the TypeSpec behind it."""
     blob = b"\0" + shortest(len(signature)) + signature
-    rows = {TYPE_DEF: [NO_CLASS, [0, 1, 0, 0, 1, 1]], TYPE_SPEC: [[len(blob)]], **rows}
+    rows = {TYPE_DEF: [NO_CLASS] + [[0, 1, 0, 0, 1, 1]] * classes, TYPE_SPEC: [[len(blob)]], **rows}
     made = Assembly(Dice(0, 0), {kind: len(of_kind) for kind, of_kind in rows.items()}, heap_bits=0)
     made.add_name(b"Class")
     made.rows = rows
@@ -64,10 +88,13 @@ def with_class(rows, spec, signature):
     return bundle(tables, bytes(made.strings), blob + shortest(len(spec)) + spec)
 
 
-CASES = [  # by a number, which at the full size is
+CASES = [  # by a number, and its double; at the full size it is
     ("{:,} interfaces", interfaces, 10000),
     ("2,500 methods of {:,} parameters", methods, 2000),
     ("50 methods of {:,} TypeSpecs", methods_with_spec, 2000),
+    ("{:,} ClassLayout rows, in order *", laid_out, 2960),
+    ("{:,} ClassLayout rows, shuffled *", laid_out_shuffled, 2960),
+    ("{:,} ClassLayout rows of {:,} *", beside_others, 1800),
 ]
 SIZES = 4, 2, 1  # parts of the full size, each with half the next one's number
 
@@ -75,7 +102,7 @@ SIZES = 4, 2, 1  # parts of the full size, each with half the next one's number
 def all_inputs(part):
     """(name, input), by case and size; the largest is that part of the full size."""
     numbered = [(name, make, full // part // size) for name, make, full in CASES for size in SIZES]
-    return [(name.format(n), make(n)) for name, make, n in numbered]
+    return [(name.format(n, 2 * n), make(n)) for name, make, n in numbered]
 
 
 # What they take, in seconds.
@@ -114,7 +141,7 @@ class Grown:
     instructions of both: None where to count them took too long."""
 
     def __init__(self, bench, program, folder, name, case):
-        self.name, self.size, self.folder = name, len(case), os.path.join(folder, name.replace(" ", "_").replace(",", ""))
+        self.name, self.size, self.folder = name, len(case), os.path.join(folder, re.sub(r"[ ,*]+", "_", name))
         os.makedirs(self.folder)
         given, listing, rust_listing = map(self.path, ("input", "listing", "rust"))
         with open(given, "wb") as file:
@@ -123,7 +150,7 @@ class Grown:
         text = contents(listing)
         self.lines = text.count(b"\n")
         self.seconds["fair"] = least(rust_seconds, bench, self.lines, given, rust_listing)
-        self.differs = text != contents(rust_listing)
+        self.differs = layouts.dropped(text) != contents(rust_listing)
         self.instructions = {}
         for path in (listing, rust_listing):  # some have 85 MB
             os.remove(path)
@@ -158,7 +185,8 @@ def by_case(all_grown):
 
 
 def print_counts(all_grown, limit):
-    print("One thing over and over, in instructions, and the exponents with which they grow as its number doubles:\n")
+    print("One thing over and over, in instructions, and the exponents with which they grow as its number doubles. With a star: the Rust")
+    print("does not read ClassLayout, so that ratio is not a fair one:\n")
     columns = "%-34s %6s %9s %11s %8s %14s %8s %8s"
     print(columns % ("input", "bytes", "lines", "the Rust", "exponent", "listing", "exponent", "ratio"))
     for each, half in by_case(all_grown):

@@ -32,7 +32,8 @@
  *     1  the tables stream has fewer than 24 bytes
  *     2  fewer than 4 bytes for each set bit of the valid mask follow the header
  *     3  some table has more than 15,000 rows
- *     4  the class, method, generic parameter, base type or parameter asked for is not in the record; or there is no such question
+ *     4  the class, method, generic parameter, base type or parameter asked for is not in the record, or no row of ClassLayout names the
+ *        class; or there is no such question
  *     5  the name asked for is missing; for the name of a class, a method or a generic parameter the reason says why
  *     6  the name is longer than its buffer; how long it is is not told, so a caller doubles the buffer and asks again. For a type-name
  *        section: it or its offsets have no room
@@ -111,6 +112,8 @@ enum {
     DN_ASK_METHOD_FLAGS = 6,
     DN_ASK_METHOD_GENERIC_COUNT = 7,
     DN_ASK_PARAM_COUNT = 8,
+    DN_ASK_CLASS_PACKING = 9,
+    DN_ASK_CLASS_SIZE = 10,
     DN_ASK_CLASS_NAME = 101,
     DN_ASK_GENERIC_NAME = 102,
     DN_ASK_BASE_NAME = 103,
@@ -214,6 +217,16 @@ dn_reply dn_class_flags(const uint8_t *tables, size_t tables_len, const uint8_t 
                         const uint8_t *blob, size_t blob_len, uint32_t options,
                         uint32_t class_number);
 
+/* The packing of a class (II.22.8), as its first ClassLayout row has it. Refusals: 1 to 4; 4 also where no row names the class. */
+dn_reply dn_class_packing(const uint8_t *tables, size_t tables_len, const uint8_t *strings, size_t strings_len,
+                          const uint8_t *blob, size_t blob_len, uint32_t options,
+                          uint32_t class_number);
+
+/* Its size, in the same way. */
+dn_reply dn_class_size(const uint8_t *tables, size_t tables_len, const uint8_t *strings, size_t strings_len,
+                       const uint8_t *blob, size_t blob_len, uint32_t options,
+                       uint32_t class_number);
+
 /* The full name of a class: its namespace, a dot and its name up to the first back-quote. The namespace of a nested class is the full
  * name of the class around it. Refusals: 1 to 6. */
 dn_reply dn_class_name(const uint8_t *tables, size_t tables_len, const uint8_t *strings, size_t strings_len,
@@ -304,14 +317,15 @@ dn_reply dn_ask_name(const uint8_t *tables, size_t tables_len, const uint8_t *st
  *
  * A line is a key, a value and the byte 0x0A. In the value each byte below 0x22, above 0x7E, or equal to 0x25 is written as a percent sign
  * and two upper-case hex digits, every other byte as it stands: so no value ends its line, and no two print alike. A name of more than
- * 4,096 bytes, counted before this writing, is `!`, which no other value is; a missing one is empty. The calls for names give the bytes as
+ * 4,096 bytes, counted before this writing, is `!`, which no other value is; a missing one is empty, and so are the packing and the size of
+ * a class that no row of ClassLayout names. The calls for names give the bytes as
  * they stand. A listing allows 1,000,000 steps for each name: a method that counts more has `returns=!` and no lines of parameters, a class
  * whose base types do has one line `base=!`.
  *
  * The words are there for speed alone: the rows of a class are found by them without a search. Any number of words will do, 0 too, and
- * whatever they hold; the piece is the same, and after the call every word is 0. 19,000 words serve every input of 65,536 bytes. In
- * general these suffice: 4 for each row of TypeDef, 2 for each of MethodDef, 1 for each of GenericParam, InterfaceImpl and NestedClass,
- * and 115 more. With fewer some rows are searched for. */
+ * whatever they hold; the piece is the same, and after the call every word is 0. 24,000 words serve every input of 65,536 bytes. In
+ * general these suffice: 5 for each row of TypeDef, 2 for each of MethodDef, 1 for each of GenericParam, InterfaceImpl, NestedClass and
+ * ClassLayout, and 135 more. With fewer some rows are searched for. */
 dn_piece dn_listing(const uint8_t *tables, size_t tables_len, const uint8_t *strings, size_t strings_len,
                     const uint8_t *blob, size_t blob_len, uint32_t options,
                     dn_cursor from, uint32_t *work, size_t work_len, uint8_t *buf, size_t buf_len);

@@ -22,8 +22,8 @@ static const uint32_t words[] = {0, 1, 4, 0x80000000, ~(uint32_t)DN_TAKER, DN_TA
 static const uint32_t modes[] = {0, DN_TAKER};
 static const size_t rooms[] = {0, 3, 40, 4096}; /* bytes of a buffer for a name */
 static const uint64_t few = 10000;              /* steps: so that what takes many is refused soon */
-static const uint32_t no_questions[] = {0, 9, 100, 109, 257, 65537, 0x80000001, UINT32_MAX};
-static const uint32_t no_places[] = {13, 256, 65536, UINT32_MAX};
+static const uint32_t no_questions[] = {0, 11, 100, 109, 257, 65537, 0x80000001, UINT32_MAX};
+static const uint32_t no_places[] = {15, 256, 65536, UINT32_MAX};
 static const dn_cursor start;
 
 static size_t number; /* of the case, from 0 */

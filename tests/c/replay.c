@@ -32,6 +32,8 @@ static int ask_by_name(const question *q, uint64_t *steps, uint8_t *buf, size_t 
 #define COUNTING(name, ...) if (q->limited && !strcmp(q->call, #name)) return *reply = dn_##name(DN_STREAMS(s), steps, __VA_ARGS__), 1
     CALL(class_count, );
     CALL(class_flags, , c);
+    CALL(class_packing, , c);
+    CALL(class_size, , c);
     CALL(class_name, , c, buf, len);
     CALL(generic_count, , c);
     CALL(generic_name, , c, m, buf, len);
@@ -54,7 +56,8 @@ static int ask_by_question(const question *q, uint64_t *steps, uint8_t *buf, siz
     static const struct { const char *call; uint32_t number; } questions[] = {
         {"class_count", DN_ASK_CLASS_COUNT}, {"class_flags", DN_ASK_CLASS_FLAGS}, {"generic_count", DN_ASK_GENERIC_COUNT},
         {"base_count", DN_ASK_BASE_COUNT}, {"method_count", DN_ASK_METHOD_COUNT}, {"method_flags", DN_ASK_METHOD_FLAGS},
-        {"method_generic_count", DN_ASK_METHOD_GENERIC_COUNT}, {"param_count", DN_ASK_PARAM_COUNT}, {"class_name", DN_ASK_CLASS_NAME},
+        {"method_generic_count", DN_ASK_METHOD_GENERIC_COUNT}, {"param_count", DN_ASK_PARAM_COUNT},
+        {"class_packing", DN_ASK_CLASS_PACKING}, {"class_size", DN_ASK_CLASS_SIZE}, {"class_name", DN_ASK_CLASS_NAME},
         {"generic_name", DN_ASK_GENERIC_NAME}, {"base_name", DN_ASK_BASE_NAME}, {"method_name", DN_ASK_METHOD_NAME},
         {"method_generic_name", DN_ASK_METHOD_GENERIC_NAME}, {"return_type", DN_ASK_RETURN_TYPE}, {"param_type", DN_ASK_PARAM_TYPE},
         {"param_name", DN_ASK_PARAM_NAME}};

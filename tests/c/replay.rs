@@ -50,6 +50,8 @@ macro_rules! calls {
 calls! {
     dn_class_count();
     dn_class_flags(class);
+    dn_class_packing(class);
+    dn_class_size(class);
     dn_class_name(class) in buf;
     dn_generic_count(class);
     dn_generic_name(class, generic) in buf;

@@ -83,6 +83,7 @@ static const call uncounted[] = {
     { "class_count", DN_ASK_CLASS_COUNT, 0, 0 },          { "class_flags", DN_ASK_CLASS_FLAGS, 0, 0 },
     { "generic_count", DN_ASK_GENERIC_COUNT, 0, 0 },      { "method_count", DN_ASK_METHOD_COUNT, 0, 0 },
     { "method_flags", DN_ASK_METHOD_FLAGS, 0, 0 },        { "method_generic_count", DN_ASK_METHOD_GENERIC_COUNT, 0, 0 },
+    { "class_packing", DN_ASK_CLASS_PACKING, 0, 0 },      { "class_size", DN_ASK_CLASS_SIZE, 0, 0 },
     { "class_name", DN_ASK_CLASS_NAME, 1, 0 },            { "generic_name", DN_ASK_GENERIC_NAME, 1, 0 },
     { "method_name", DN_ASK_METHOD_NAME, 1, 0 },          { "method_generic_name", DN_ASK_METHOD_GENERIC_NAME, 1, 0 },
 };

@@ -6,11 +6,11 @@
 #include "dotnet_tables.h"
 
 enum { WALK_STOP, WALK_STOP_BY_TABLE, CLASS_COUNT, GENERIC_COUNT, BASE_COUNT, METHOD_COUNT, METHOD_GENERIC_COUNT, PARAM_COUNT,
-       CLASS_FLAGS, METHOD_FLAGS, CLASS_NAME, GENERIC_NAME, BASE_NAME, METHOD_NAME, METHOD_GENERIC_NAME, RETURN_TYPE, PARAM_TYPE,
-       PARAM_NAME, CALLS };
+       CLASS_FLAGS, CLASS_PACKING, CLASS_SIZE, METHOD_FLAGS, CLASS_NAME, GENERIC_NAME, BASE_NAME, METHOD_NAME, METHOD_GENERIC_NAME,
+       RETURN_TYPE, PARAM_TYPE, PARAM_NAME, CALLS };
 
 enum { KINDS = 64 };    /* of tables */
-enum { WORDS = 19000 }; /* lent to a listing, as many as serve every input of 65,536 bytes */
+enum { WORDS = 24000 }; /* lent to a listing, as many as serve every input of 65,536 bytes */
 enum { LISTED = 1000000 }; /* steps that a listing allows for a name */
 
 struct bytes { const uint8_t *at; size_t length; };
@@ -56,6 +56,8 @@ FORM(method_count, ROWS1)
 FORM(method_generic_count, ROWS2)
 FORM(param_count, LIMITED2)
 FORM(class_flags, ROWS1)
+FORM(class_packing, ROWS1)
+FORM(class_size, ROWS1)
 FORM(method_flags, ROWS2)
 FORM(class_name, ROWS1, BUFFER)
 FORM(generic_name, ROWS2, BUFFER)
@@ -103,6 +105,8 @@ static const struct call calls[CALLS] = {
     CALL(METHOD_GENERIC_COUNT, method_generic_count, 2, 0, CLASS_COUNT, METHOD_COUNT),
     CALL(PARAM_COUNT, param_count, 2, 0, CLASS_COUNT, METHOD_COUNT),
     CALL(CLASS_FLAGS, class_flags, 1, 0, CLASS_COUNT),
+    CALL(CLASS_PACKING, class_packing, 1, 0, CLASS_COUNT),
+    CALL(CLASS_SIZE, class_size, 1, 0, CLASS_COUNT),
     CALL(METHOD_FLAGS, method_flags, 2, 0, CLASS_COUNT, METHOD_COUNT),
     CALL(CLASS_NAME, class_name, 1, 1, CLASS_COUNT),
     CALL(GENERIC_NAME, generic_name, 2, 1, CLASS_COUNT, GENERIC_COUNT),

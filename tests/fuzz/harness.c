@@ -5,7 +5,8 @@
                                    as many bytes and as many offsets
      harness inputs SEEDS N SEED   N inputs, made from the seeds by mutation or from nothing: every call, with numbers inside and outside,
                                    by its name and by its question, in either mode of opening with any other options, and with any
-                                   allowance of steps, of which both leave the same; questions that there are not; pieces of the listing from
+                                   allowance of steps, of which both leave the same; packing and size beside the rows of ClassLayout, where
+                                   the walk says that these are; questions that there are not; pieces of the listing from
                                    anywhere, by lent words of any number and content; and the type-name section, in buffers of any lengths
                                    and of four fillings, beside the one that the names of the classes make
 
@@ -27,7 +28,9 @@
 #define MOST 65536           /* bytes of an input */
 #define ROOM (1 << 20)       /* bytes of the largest buffer */
 #define CANARY 64            /* bytes before the buffer, and before lent words */
-#define PLACES 13            /* of a listing */
+#define PLACES 15            /* of a listing */
+#define CLASS_LAYOUT 0x0F    /* a kind of table, and */
+#define PARENT 6             /* bytes before the Parent column of its rows */
 #define NAME 4096            /* bytes for a name of a section, and */
 #define SECTION (1 << 16)    /* of the longest that is made by the names */
 #define WAYS 4               /* to fill the buffers of a section */
@@ -477,9 +480,21 @@ static void check_with_junk(int call, const uint32_t *rows, size_t length, dn_re
     check_question(calls[call].question, calls[call].is_name, r, length, expected);
 }
 
+static uint32_t little_endian(const uint8_t *at, int bytes) { return bytes ? at[0] | little_endian(at + 1, bytes - 1) << 8 : 0; }
+
+/* What the first whole row of ClassLayout says that names a class (II.22.8), or 4: its packing, 2 bytes, or its size, the 4 behind them. */
+static dn_reply layout_of(int call, uint32_t class_number) {
+    dn_extent table = extent_of(&input, 0, CLASS_LAYOUT);
+    const uint8_t *row = input.tables.at + table.start, *end = row + table.rows * table.size;
+    for (; row < end; row += table.size)
+        if (little_endian(row + PARENT, 2) == class_number + 2ul)
+            return (dn_reply){ call == CLASS_PACKING ? little_endian(row, 2) : little_endian(row + 2, 4), 0, 0 };
+    return (dn_reply){ 0, DN_NO_SUCH_ROW, 0 };
+}
+
 static void check_call(int call, size_t refusal, int out) {
     uint32_t rows[3];
-    int inside = some_rows(call, out, rows);
+    int inside = some_rows(call, out, rows), is_layout = call == CLASS_PACKING || call == CLASS_SIZE;
     size_t length = calls[call].is_name ? some_length() : 0;
     dn_reply reply, again;
     if (calls[call].is_name) {
@@ -494,7 +509,9 @@ static void check_call(int call, size_t refusal, int out) {
         again = ask(call, rows, no_buffer);
     }
     if (!same(reply, again)) report("another reply the second time");
-    int may_fail = calls[call].is_name && (reply.refusal == DN_NO_NAME || reply.refusal == DN_BUFFER_TOO_SMALL);
+    if (is_layout && inside && !refusal && !same(reply, layout_of(call, rows[0]))) report("not what the class's row of ClassLayout says");
+    int may_fail = is_layout ? reply.refusal == DN_NO_SUCH_ROW
+                             : calls[call].is_name && (reply.refusal == DN_NO_NAME || reply.refusal == DN_BUFFER_TOO_SMALL);
     int is_over = reply.refusal == DN_TOO_MANY_STEPS && is_counting(calls[call].question);
     if (refusal ? reply.refusal != refusal : is_over ? 0 : inside ? reply.refusal && !may_fail : reply.refusal != DN_NO_SUCH_ROW)
         report("a refusal that does not belong there, or none where one does");
@@ -511,7 +528,7 @@ static int call_of(uint32_t question, int is_name) {
 
 /* Any question, which need not be one of that call or of any. */
 static void check_any_question(size_t refusal) {
-    uint32_t question = (const uint32_t[]){ (uint32_t)below(12), 95 + (uint32_t)below(16), (uint32_t)chance(),
+    uint32_t question = (const uint32_t[]){ (uint32_t)below(14), 95 + (uint32_t)below(16), (uint32_t)chance(),
                                             calls[below(CALLS)].question + (256u << below(24)) }[below(4)];
     uint32_t rows[3] = { number_near(2), number_near(2), number_near(2) };
     int is_name = (int)below(2), call = call_of(question, is_name);

@@ -32,6 +32,13 @@ static uint64_t number_of(struct listing *to, int call, const uint32_t *r) {
     return reply.refusal ? 0 : reply.value;
 }
 
+/* A line with a number that may be missing: then it is the key alone. */
+static void put_if_there(struct listing *to, const char *key, int call, const uint32_t *r) {
+    dn_reply reply = calls[call].ask(to->in, r, (struct buffer){ 0, 0 });
+    if (reply.refusal) put(to, key, strlen(key)), put(to, "\n", 1);
+    else put_number(to, key, reply.value);
+}
+
 /* A value as it is written: a byte below 0x22, above 0x7E, or equal to 0x25 as a percent sign and two digits. */
 static void put_value(struct listing *to, const uint8_t *value, size_t n) {
     static const char digits[] = "0123456789ABCDEF";
@@ -73,6 +80,7 @@ static void list_method(struct listing *to, uint32_t *r) {
 static void list_class(struct listing *to, uint32_t *r) {
     put_name(to, "class=", CLASS_NAME, r);
     put_number(to, "flags=", number_of(to, CLASS_FLAGS, r));
+    put_if_there(to, "packing=", CLASS_PACKING, r), put_if_there(to, "size=", CLASS_SIZE, r);
     put_names(to, "generic=", GENERIC_COUNT, GENERIC_NAME, r, 1);
     put_names(to, "base=", BASE_COUNT, BASE_NAME, r, 1);
     uint64_t n = number_of(to, METHOD_COUNT, r);

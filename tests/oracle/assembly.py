@@ -3,7 +3,7 @@
 from dice import shortest, signed, some_form
 
 MODULE, TYPE_REF, TYPE_DEF, FIELD, METHOD_DEF, PARAM, INTERFACE_IMPL, MEMBER_REF = 0, 1, 2, 4, 6, 8, 9, 0x0A
-CONSTANT, CUSTOM_ATTRIBUTE, TYPE_SPEC, NESTED_CLASS, GENERIC_PARAM = 0x0B, 0x0C, 0x1B, 0x29, 0x2A
+CONSTANT, CUSTOM_ATTRIBUTE, CLASS_LAYOUT, TYPE_SPEC, NESTED_CLASS, GENERIC_PARAM = 0x0B, 0x0C, 0x0F, 0x1B, 0x29, 0x2A
 
 # The columns of each table (ECMA-335 II.22; the undocumented ones as in the Rust): a number of bytes; `s`, `g`
 # or `b` for an index into the strings, GUID or blob heap; `@` and a kind for a row of it; or a coded index.
@@ -32,6 +32,20 @@ WORDS = [b"A", b"Box", b"List`1", b"Map`2", b"Outer", b"Inner", b"N", b"System",
          b"TValue", b".ctor", b".cctor", b"Main", b"get_Item", b"x", b"value", b"`", b"``", b"`1", b"a.b",
          b"<Module>", b"\xc3\xa9", b"\xff\xfe", b"two\nlines", b"flags=7", b"%41", b"!", b" ",
          b"GuidAttribute"]
+
+
+def column_sizes(kind, counts, heap_bits):
+    """The bytes of each column of a table, by the row counts and the heap sizes byte."""
+    return [column_size(column, counts, heap_bits) for column in COLUMNS[kind].split()]
+
+
+def column_size(column, counts, heap_bits):
+    if column in ("2", "4"):
+        return int(column)
+    if column in ("s", "g", "b"):
+        return 4 if heap_bits & {"s": 1, "g": 2, "b": 4}[column] else 2
+    rows, tables = WIDENED.get(column, (0, []))
+    return 4 if any(counts.get(kind, 0) >= rows for kind in tables) else 2
 
 
 def bundle(tables, strings, blob):
@@ -288,18 +302,10 @@ class Assembly:
 
     # Bytes.
 
-    def width(self, column):
-        if column in ("2", "4"):
-            return int(column)
-        if column in ("s", "g", "b"):
-            return 4 if self.heap_bits & {"s": 1, "g": 2, "b": 4}[column] else 2
-        rows, tables = WIDENED.get(column, (0, []))
-        return 4 if any(self.count(kind) >= rows for kind in tables) else 2
-
     def row_bytes(self, kind):
-        widths = [self.width(column) for column in COLUMNS[kind].split()]
-        return b"".join((value % (1 << 8 * width)).to_bytes(width, "little")
-                        for row in self.rows[kind] for value, width in zip(row, widths))
+        sizes = column_sizes(kind, self.counts, self.heap_bits)
+        return b"".join((value % (1 << 8 * size)).to_bytes(size, "little")
+                        for row in self.rows[kind] for value, size in zip(row, sizes))
 
     def header(self):
         dice = self.dice

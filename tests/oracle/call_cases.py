@@ -1,6 +1,6 @@
 """Streams made by hand for the public calls, each with its name, for `record_calls`."""
 
-from assembly import (FIELD, GENERIC_PARAM, INTERFACE_IMPL, METHOD_DEF, NESTED_CLASS, PARAM, TYPE_DEF, TYPE_REF, TYPE_SPEC,
+from assembly import (CLASS_LAYOUT, FIELD, GENERIC_PARAM, INTERFACE_IMPL, METHOD_DEF, NESTED_CLASS, PARAM, TYPE_DEF, TYPE_REF, TYPE_SPEC,
                       Assembly)
 from dice import shortest
 
@@ -35,17 +35,17 @@ class Still:
 class Case:
     """Tables of few columns: a type is (flags, name, namespace, first method) and may have its Extends column behind them, a method
     (flags, name) and may have its signature and its first parameter behind them, a generic parameter is (owner, name), a parameter
-    its name, a reference (name, namespace), a specification its signature, an interface the row itself. TypeDef row 1 is added, so that
-    `types` begin with row 2, class 0. A name is its bytes, None for none, or a number for an index into the strings; a signature the
-    same in the blobs. `others` are counts of further tables, all zeros."""
+    its name, a reference (name, namespace), a specification its signature, an interface or a layout the row itself. TypeDef row 1 is
+    added, so that `types` begin with row 2, class 0. A name is its bytes, None for none, or a number for an index into the strings; a
+    signature the same in the blobs. `others` are counts of further tables, all zeros."""
 
-    def __init__(self, name, types=(), methods=(), nested=(), generics=(), params=(), refs=(), specs=(), interfaces=(), heap_bits=0,
-                 others=None, module=1, edit=None):
+    def __init__(self, name, types=(), methods=(), nested=(), generics=(), params=(), refs=(), specs=(), interfaces=(), layouts=(),
+                 heap_bits=0, others=None, module=1, edit=None):
         self.name = name
         self.types = [(*row, 0)[:5] for row in [(0, b"<Module>", None, module), *types]]
         self.methods = [(*row, *(None, 1)[len(row) - 2:]) for row in methods]
         self.nested, self.generics, self.params, self.refs = nested, generics, params, refs
-        self.specs, self.interfaces = specs, interfaces
+        self.specs, self.interfaces, self.layouts = specs, interfaces, layouts
         self.heap_bits, self.others = heap_bits, others or {}
         self.edit = edit or (lambda made, tables, strings, blob: (tables, strings, blob))
 
@@ -58,7 +58,8 @@ class Case:
 
     def streams(self):
         tables = {TYPE_REF: self.refs, TYPE_DEF: self.types, METHOD_DEF: self.methods, PARAM: self.params,
-                  INTERFACE_IMPL: self.interfaces, TYPE_SPEC: self.specs, NESTED_CLASS: self.nested, GENERIC_PARAM: self.generics}
+                  INTERFACE_IMPL: self.interfaces, CLASS_LAYOUT: self.layouts, TYPE_SPEC: self.specs, NESTED_CLASS: self.nested,
+                  GENERIC_PARAM: self.generics}
         made = Assembly(Still(), {**{kind: len(rows) for kind, rows in tables.items()}, **self.others}, self.heap_bits)
         names = list(self.names())
         for name in names:
@@ -76,6 +77,7 @@ class Case:
             METHOD_DEF: [[0, 0, flags, index(name), blob(sig), first] for flags, name, sig, first in self.methods],
             PARAM: [[0, 0, index(name)] for name in self.params],
             INTERFACE_IMPL: self.interfaces,
+            CLASS_LAYOUT: self.layouts,
             TYPE_SPEC: [[blob(sig)] for sig in self.specs],
             NESTED_CLASS: self.nested,
             GENERIC_PARAM: [[0, 0, owner, index(name)] for owner, name in self.generics],
@@ -426,3 +428,29 @@ def all_cases():
     for cases in (document_cases, name_cases, nested_cases, generic_cases, method_cases, cut_cases, heap_cases, base_cases, type_cases,
                   signature_cases, pairing_cases, wide_cases, refused_cases, reason_cases):
         yield from cases()
+
+
+def layout_cases():
+    """Rows of ClassLayout: packing, size, Parent. They are no part of all_cases, which other recorders have too."""
+    two = [A, B]
+    yield Case("layouts, one row", two, layouts=[(4, 16, 2)])
+    yield Case("layouts, the last class", two, layouts=[(4, 16, 3)])
+    yield Case("layouts, two rows of a class", two, layouts=[(4, 16, 2), (8, 32, 2), (1, 1, 3), (2, 2, 3)])
+    yield Case("layouts, zeros before another row", two, layouts=[(0, 0, 2), (4, 16, 2), (0, 5, 3)])
+    yield Case("layouts, the largest values", two, layouts=[(65535, 4294967295, 2), (32768, 2147483648, 3)])
+    yield Case("layouts, Parents 0 and 1", two, layouts=[(1, 1, 0), (2, 2, 1)])
+    yield Case("layouts, Parents past the table", two, layouts=[(1, 1, 4), (2, 2, 65535), (3, 3, 258)])
+    yield Case("layouts, all of these, not in order", [A, B, C],
+               layouts=[(9, 9, 5), (3, 30, 4), (9, 9, 1), (1, 10, 3), (9, 9, 0), (8, 80, 4), (9, 9, 65535), (7, 70, 3), (2, 20, 2)])
+    yield Case("layouts, no class", layouts=[(4, 16, 2), (4, 16, 1)])
+    yield Case("layouts, 4 bytes for indices of heaps", two, [(0, b"m")], layouts=[(4, 16, 3), (8, 32, 2)], heap_bits=0x47)
+    yield Case("layouts, other tables before", two, interfaces=[(2, of_def(3))], layouts=[(4, 16, 3)], others={0x0A: 2, 0x0C: 1, 0x0E: 1})
+    for rows, more in ((0, 0), (0, 7), (1, 0), (1, 1), (1, 7), (2, 0), (2, 7)):
+        yield Case("layouts, cut %d bytes after row %d" % (more, rows), two, nested=[(3, 2)],
+                   layouts=[(4, 16, 3), (8, 32, 2), (1, 1, 2)], edit=cut_in(CLASS_LAYOUT, rows, more))
+    yield Case("layouts, cut before they are reached", two, interfaces=[(2, of_def(3))], layouts=[(4, 16, 2)],
+               edit=cut_in(INTERFACE_IMPL, 0, 3))
+    yield Case("layouts, TypeDef cut", two, layouts=[(4, 16, 2)], edit=cut_in(TYPE_DEF, 2, 9))
+    yield Bytes("layouts, refused, 1", bytes(23))
+    yield Bytes("layouts, refused, 2", "00000000 02 00 00 01 0480000000000000 0000000000000000 03000000 010000")
+    yield Case("layouts, refused, 3", two, layouts=[(4, 16, 2)], edit=with_count(CLASS_LAYOUT, 15001))

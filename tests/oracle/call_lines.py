@@ -1,12 +1,14 @@
-"""What the program call_vectors reads: blocks of three streams and the answers of the public calls, made of the oracle's record and of the
-steps that it counts."""
+"""What the program call_vectors reads: blocks of three streams and the answers of the public calls, made of the oracle's record, of the
+steps that it counts, and of the model of ClassLayout (layouts.py), which the Rust does not read."""
 
 import math
 import os
 import sys
 
+import layouts
 from asking import SECONDS, Oracle, streams
 from assembly import GENERIC_PARAM, METHOD_DEF, TYPE_DEF, bundle
+from changes import MOST_BYTES
 
 # A longer name is left out: the program's buffer has two bytes more.
 LONGEST = 16382
@@ -19,6 +21,8 @@ COUNTING = ("base_count", "base_name", "return_type", "param_count", "param_type
 ALLOWED = 1000000
 MARK = "!"  # in a record or in steps: above the ceiling
 NULL_INDEX, PAST_END, NO_ZERO = ".1", ".2", ".3"  # why a string is missing
+ONE_NAME = b"\0X\0"  # a strings heap
+MOST_TOLD = MOST_BYTES - len(ONE_NAME)  # bytes of an input of which the Rust can be asked why names are missing
 NAME_PLACES = {TYPE_DEF: 4, METHOD_DEF: 8, GENERIC_PARAM: 6}  # in a row, of the Name column
 LAST = 0xFFFFFFFF
 
@@ -120,7 +124,7 @@ def told_reasons(records, case, classes):
         return classes
     tables, strings, blob = streams(case)
     filled = with_names(tables, records.walker.ask(case))
-    others = [(tables, strings[:-1] + bytes(len(strings[-1:])), blob), (tables, b"\0X\0", blob), (filled, b"\0X\0", blob)]
+    others = [(tables, strings[:-1] + bytes(len(strings[-1:])), blob), (tables, ONE_NAME, blob), (filled, ONE_NAME, blob)]
     closed, plain, patched = (names_of(read_record(records.ask(bundle(*three)))[1]) for three in others)
 
     def tell(name):
@@ -193,6 +197,13 @@ def with_steps(classes, answer):
     return classes
 
 
+def with_layouts(classes, tables):
+    """The classes with their packing and size, which are refused where no row names a class."""
+    for found, layout in zip(classes, layouts.of_classes(tables)):
+        found["packing"], found["size"] = layout or (NO_ROW, NO_ROW)
+    return classes
+
+
 def charged(answer, steps, allowance):
     """The answer of a call that counts so many steps, and what is left of an allowance. Where a class or a method is not there, or nothing
     is read, nothing is counted, None."""
@@ -228,6 +239,7 @@ def of_missing_method(c, m, refusal=NO_ROW):
 
 def of_missing_class(c, refusal=NO_ROW):
     yield "class_flags", (c,), refusal, None
+    yield from of_layout(c, refusal, refusal)
     yield "class_name", (c,), refusal, None
     yield "generic_count", (c,), refusal, None
     yield "generic_name", (c, 0), refusal, None
@@ -235,6 +247,11 @@ def of_missing_class(c, refusal=NO_ROW):
     yield "base_name", (c, 0), refusal, None
     yield "method_count", (c,), refusal, None
     yield from of_missing_method(c, 0, refusal)
+
+
+def of_layout(c, packing, size):
+    yield "class_packing", (c,), packing, None
+    yield "class_size", (c,), size, None
 
 
 def of_list(call, numbers, names, steps=None):
@@ -261,6 +278,8 @@ def of_method(c, m, found):
 
 def of_class(c, found, thorough):
     yield "class_flags", (c,), found["flags"], None
+    if "packing" in found:
+        yield from of_layout(c, found["packing"], found["size"])
     yield "class_name", (c,), found["name"], None
     yield from of_counted("generic", (c,), found["generics"])
     yield from of_counted("base", (c,), found["bases"], found["steps"])
@@ -273,7 +292,7 @@ def of_class(c, found, thorough):
 
 def asked(records, case, record, thorough, options=0):
     """Each answer of the record but those in the middle of a long list, and some that are refused: just past each end, and, if it is to be
-    thorough, by every call there and at the largest numbers."""
+    thorough, by every call there and at the largest numbers. Packing and size are asked for where there are rows of them, or thoroughly."""
     refusal, classes = read_record(record)
     if refusal:
         yield "class_count", (), "!%d" % refusal, None
@@ -282,6 +301,9 @@ def asked(records, case, record, thorough, options=0):
     classes = with_steps(told_reasons(records, case, classes), records.steps(case))
     if options & TAKER:
         classes = with_takers(records, case, classes)
+    tables = streams(case)[0]
+    if thorough or layouts.rows(tables):
+        classes = with_layouts(classes, tables)
     yield "class_count", (), len(classes), None
     for c, found in enumerate(classes):
         yield from of_class(c, found, thorough)

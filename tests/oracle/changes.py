@@ -1,15 +1,15 @@
-"""Changes to inputs of the listing program, for `record_listings` and tests/differential: damage, which may change any answer; moves of
-rows that must change none (demand 3), and swaps that must change one."""
+"""Changes to inputs of the listing program, for `record_listings`, tests/differential and others: damage, which may change any answer; moves
+of rows that must change none (demand 3), and swaps that must change one."""
 
 import re
 
 from asking import streams
-from assembly import GENERIC_PARAM, INTERFACE_IMPL, NESTED_CLASS, TYPE_DEF, bundle
+from assembly import CLASS_LAYOUT, GENERIC_PARAM, INTERFACE_IMPL, NESTED_CLASS, TYPE_DEF, bundle
 
 MOST_BYTES = 65536
 LONGEST = 4096  # the longest value that a listing prints
 HEADER = 24
-SIDE_TABLES = (GENERIC_PARAM, INTERFACE_IMPL, NESTED_CLASS)
+SIDE_TABLES = (GENERIC_PARAM, INTERFACE_IMPL, NESTED_CLASS)  # those that must be whole, for any row of a side table to move
 
 
 def is_formed(case):
@@ -126,6 +126,11 @@ def owner(row):
     return word(row, 4)
 
 
+def parent(row):
+    """The Parent column of ClassLayout, behind PackingSize and ClassSize. It has 2 bytes too."""
+    return word(row, 6)
+
+
 def extents_of(answer):
     return [list(map(int, line.split())) for line in answer.decode().splitlines()[:64]]
 
@@ -136,15 +141,18 @@ def row_counts(tables):
     return {kind: word(tables, HEADER + 4 * i, 4) for i, kind in enumerate(kinds)}
 
 
-def are_whole(tables, extents):
-    """Whether the walk reads the side tables whole."""
+def are_whole(tables, extents, kinds=SIDE_TABLES):
+    """Whether the walk reads these tables whole."""
     counts = row_counts(tables)
-    return all(extents[kind][3] == counts.get(kind, 0) for kind in SIDE_TABLES)
+    return all(extents[kind][3] == counts.get(kind, 0) for kind in kinds)
 
 
 def rearranged(dice, tables, extents):
-    """The tables with the rows of the side tables in another order that demand 3 allows."""
-    for kind, order in ((GENERIC_PARAM, by_owner), (INTERFACE_IMPL, by_class), (NESTED_CLASS, by_nesting)):
+    """The tables with the rows of the side tables in another order that demand 3 allows. ClassLayout stays as it is where it is cut."""
+    orders = [(GENERIC_PARAM, by_owner), (INTERFACE_IMPL, by_class), (NESTED_CLASS, by_nesting)]
+    if are_whole(tables, extents, [CLASS_LAYOUT]):
+        orders.append((CLASS_LAYOUT, by_parent))
+    for kind, order in orders:
         table = Table(tables, extents[kind])
         tables = table.put(tables, order(dice, table.rows))
     return tables
@@ -156,6 +164,10 @@ def by_owner(dice, rows):
 
 def by_class(dice, rows):
     return keeping(dice, rows, lambda row: word(row, 0))
+
+
+def by_parent(dice, rows):
+    return keeping(dice, rows, parent)
 
 
 def keeping(dice, rows, key):
@@ -185,12 +197,23 @@ def swapped(dice, tables, strings, extents):
     names = [printed(strings, word(row, 6, len(row) - 6)) for row in table.rows]
     pairs = [(i, j) for j, row in enumerate(table.rows) for i, other in enumerate(table.rows[:j])
              if owner(row) == owner(other) and is_listed(owner(row), extents) and names[i] != names[j]]
-    if not pairs:
-        return None
-    i, j = dice.pick(pairs)
-    rows = list(table.rows)
+    return table.put(tables, exchanged(table.rows, *dice.pick(pairs))) if pairs else None
+
+
+def swapped_layouts(dice, tables, extents):
+    """The tables with the first ClassLayout row of a class exchanged with a later one that says something else; None if there is none."""
+    table, first = Table(tables, extents[CLASS_LAYOUT]), {}
+    for i, row in enumerate(table.rows):
+        first.setdefault(parent(row), i)
+    pairs = [(first[parent(row)], j) for j, row in enumerate(table.rows)
+             if 2 <= parent(row) <= extents[TYPE_DEF][3] and row != table.rows[first[parent(row)]]]
+    return table.put(tables, exchanged(table.rows, *dice.pick(pairs))) if pairs else None
+
+
+def exchanged(rows, i, j):
+    rows = list(rows)
     rows[i], rows[j] = rows[j], rows[i]
-    return table.put(tables, rows)
+    return rows
 
 
 def is_listed(owner_column, extents):

@@ -5,6 +5,7 @@ import itertools
 
 from assembly import bundle
 from call_cases import Case, plain, signature
+from known import BARE
 
 CLASSES = 3
 MOST_METHODS = 3
@@ -87,7 +88,7 @@ class Placing:
     def listing(self, by_taker):
         lines = ["stop=64", "classes=%d" % len(self.columns)]
         for c in range(len(self.columns)):
-            lines += ["class=C%d" % c, "flags=%d" % FLAGS] + ["generic=T%d" % c] * (c in self.generic)
+            lines += ["class=C%d" % c, "flags=%d" % FLAGS, *BARE.splitlines()] + ["generic=T%d" % c] * (c in self.generic)
             for m in self.methods_of(c):
                 returns, parameter = self.signature_of(m, by_taker)[0] or (None, None)
                 lines += ["method=m%d" % m, "mflags=%d" % m, "returns=" + (returns or "")]

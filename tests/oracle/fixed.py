@@ -3,7 +3,7 @@
 import deep
 import steps
 import widths
-from known import LIMITS, WHOLE
+from known import LAYOUTS, LIMITS, WHOLE
 from values import VALUES
 
 
@@ -11,6 +11,8 @@ def all_inputs():
     """(kind, name, input)."""
     for name, case in {"the whole case": WHOLE, **{name: case for name, (case, _) in LIMITS.items()}}.items():
         yield "known", name.replace(":", ""), case
+    for name, (case, _) in LAYOUTS.items():
+        yield "known", "ClassLayout, " + name, case
     for name, (case, _) in VALUES.items():
         yield "values", name, case
     for name, case in steps.listed():

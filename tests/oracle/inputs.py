@@ -1,6 +1,7 @@
-"""The inputs that `generate` writes. Input number i of a seed depends on the two alone; README.md says which sorts there are."""
+"""The inputs that `generate` writes, and those with many rows of ClassLayout. Input number i of a seed depends on the two alone; README.md
+says which sorts there are."""
 
-from assembly import (COLUMNS, CUSTOM_ATTRIBUTE, FIELD, GENERIC_PARAM, INTERFACE_IMPL, MEMBER_REF, METHOD_DEF, MODULE,
+from assembly import (CLASS_LAYOUT, COLUMNS, CUSTOM_ATTRIBUTE, FIELD, GENERIC_PARAM, INTERFACE_IMPL, MEMBER_REF, METHOD_DEF, MODULE,
                       NESTED_CLASS, PARAM, TYPE_DEF, TYPE_REF, TYPE_SPEC, WIDENED, Assembly, bundle)
 from dice import Dice
 
@@ -228,3 +229,34 @@ def make(seed, number):
         sort = long_names
     before = SORTS[:place].count(sort)
     return sort(Dice(seed, number), turn * SORTS.count(sort) + before)
+
+
+# Inputs beside these, so that what was recorded of them stays.
+
+PACKINGS = 0, 1, 2, 8, 128, 255, 256, 32767, 32768, 65535
+SIZES = 0, 1, 16, 255, 65535, 65536, (1 << 31) - 1, 1 << 31, (1 << 32) - 1
+
+
+def some_parent(dice, types):
+    """Mostly the row of a class; at times 0, 1, or past the last row."""
+    choice = dice.below(8)
+    return dice.between(2, types) if choice < 5 else dice.pick([0, 1]) if choice == 5 else dice.pick([types + 1, types + 2, 256, 65535])
+
+
+def layouts(dice):
+    """Few classes and many rows of ClassLayout, in the order of their Parents or not; every third is cut, mostly in that table."""
+    types = dice.between(2, 7)
+    made = Assembly(dice, {TYPE_DEF: types, METHOD_DEF: dice.below(3), INTERFACE_IMPL: dice.below(4), CLASS_LAYOUT: dice.between(1, 12),
+                           NESTED_CLASS: dice.below(3), GENERIC_PARAM: dice.below(4)})
+    parents = [some_parent(dice, types) for _ in range(made.count(CLASS_LAYOUT))]
+    made.rows[CLASS_LAYOUT] = [[dice.pick(PACKINGS), dice.pick(SIZES), parent]
+                               for parent in (sorted(parents) if dice.one_in(2) else parents)]
+    tables, strings, blob = made.fill().streams()
+    if dice.one_in(3):
+        behind = sum(len(made.row_bytes(kind)) for kind in made.rows if kind > CLASS_LAYOUT)
+        tables = tables[:len(tables) - behind - dice.between(1, len(made.row_bytes(CLASS_LAYOUT)) + dice.pick([0, 0, 0, 14]))]
+    return bundle(tables, strings, blob)
+
+
+def make_layouts(seed, number):
+    return layouts(Dice(seed + 3000017, number))

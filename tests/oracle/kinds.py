@@ -5,7 +5,8 @@ import assemblies
 import changes
 import inputs
 from asking import streams
-from assembly import (GENERIC_PARAM, INTERFACE_IMPL, METHOD_DEF, NESTED_CLASS, PARAM, TYPE_DEF, TYPE_REF, TYPE_SPEC, Assembly, bundle)
+from assembly import (CLASS_LAYOUT, GENERIC_PARAM, INTERFACE_IMPL, METHOD_DEF, NESTED_CLASS, PARAM, TYPE_DEF, TYPE_REF, TYPE_SPEC,
+                      Assembly, bundle)
 from call_cases import Case, of_def, of_spec, plain, signature
 from dice import shortest
 
@@ -44,13 +45,29 @@ def parts(seed, dice, turn):
     return assemblies.part_of(dice, dice.pick(Real.all_streams))
 
 
+def laid_out(seed, dice, turn):
+    return inputs.make_layouts(seed, turn)
+
+
 def side_tables(dice):
     """An input with many rows in the side tables, which the walk reads whole; at times a real one."""
-    if dice.one_in(4):
-        return dice.pick(Real.small)
+    return dice.pick(Real.small) if dice.one_in(4) else made_side_tables(dice)
+
+
+def made_side_tables(dice):
     counts = {TYPE_REF: dice.below(4), TYPE_DEF: dice.between(3, 8), METHOD_DEF: dice.below(8), PARAM: dice.below(4),
-              INTERFACE_IMPL: dice.below(14), TYPE_SPEC: dice.below(5), NESTED_CLASS: dice.below(14), GENERIC_PARAM: dice.between(4, 24)}
+              INTERFACE_IMPL: dice.below(14), CLASS_LAYOUT: dice.below(14), TYPE_SPEC: dice.below(5), NESTED_CLASS: dice.below(14),
+              GENERIC_PARAM: dice.between(4, 24)}
     return bundle(*Assembly(dice, counts).fill().streams())
+
+
+def beside_cut_layouts(dice):
+    """An input in which ClassLayout is cut, so that it stays as it is, and NestedClass and GenericParam, behind it, have no rows: those of
+    InterfaceImpl, before it, may move."""
+    counts = {TYPE_REF: dice.below(4), TYPE_DEF: dice.between(3, 8), INTERFACE_IMPL: dice.between(2, 14), CLASS_LAYOUT: dice.between(1, 14)}
+    made = Assembly(dice, counts).fill()
+    tables, strings, blob = made.streams()
+    return bundle(tables[:len(tables) - dice.between(1, len(made.row_bytes(CLASS_LAYOUT)))], strings, blob)
 
 
 def some_type(dice, specs, deep=0):

@@ -1,15 +1,17 @@
-"""Answers of the public calls with allowances around what they count (2026-06), for `record_calls`: of the streams of steps.py, and of some
-that are refused."""
+"""Answers of the public calls with allowances around what they count (2026-06), for `record_calls`: of the streams of steps.py, of some rows
+of ClassLayout, and of some that are refused."""
 
 import math
 
 import steps
 from asking import streams
 from assembly import bundle
+from call_cases import layout_cases
 from call_lines import COUNTING, NO_ROW, asked, line
 from known import LIMITS
 
 REFUSED = "1: 23 bytes", "2: counts cut", "3: 15,001 rows"
+LAID_OUT = "layouts, two rows of a class", "layouts, the largest values"
 PAST = 9999  # a place that is not there
 MORE = 3
 UNCOUNTED = 0, 7  # allowances of which nothing is taken
@@ -59,6 +61,10 @@ def any_call(call, count):
     return True
 
 
+def of_layouts(call, count):
+    return call in ("class_packing", "class_size")
+
+
 def large():
     """Those of the crafted cases that are over the ceiling, each by few steps or endlessly."""
     for case, counts, _ in steps.crafted():
@@ -71,6 +77,7 @@ def blocks(records):
     """(name, streams, lines), by records under the raised ceiling."""
     known = [(case, of_what_is_there) for case, *_ in steps.table()]
     known += [(case, any_call) for case, _ in steps.sums()] + [(case, that_counts) for case in large()]
+    known += [(case, of_layouts) for case in layout_cases() if case.name in LAID_OUT]
     for case, is_meant in known:
         three = case.streams()
         yield case.name, three, list(lines_of(records, bundle(*three), is_meant, is_meant is any_call))

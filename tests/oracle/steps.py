@@ -4,6 +4,7 @@
 from assembly import bundle
 from call_cases import A, C, Case, of_def, of_ref, of_spec, plain, signature
 from dice import shortest
+from known import BARE
 
 CEILING = 1000000  # what a listing allows for a name
 RAISED = 2 * CEILING  # for those that are a little over it
@@ -176,7 +177,7 @@ def lines(*parts):
 
 
 def class_lines(name, *bases, flags=1):
-    return ["class=" + name, "flags=%d" % flags, *("base=" + base for base in bases)]
+    return ["class=" + name, "flags=%d" % flags, *BARE.splitlines(), *("base=" + base for base in bases)]
 
 
 def method_lines(name, returns, *params):

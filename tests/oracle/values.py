@@ -2,7 +2,7 @@
 `record_listings` and `tests/differential`."""
 
 from assembly import bundle
-from known import header
+from known import BARE, header
 
 TYPE_DEF, METHOD_DEF = 0x02, 0x06
 LONGEST = 4096  # bytes of a value that is printed
@@ -38,15 +38,15 @@ def typed(name, signature):
 
 def classes(*values):
     """The listing of classes whose names are written so."""
-    return "stop=64\nclasses=%d\n" % len(values) + "".join("class=%s\nflags=0\n" % value for value in values)
+    return "stop=64\nclasses=%d\n" % len(values) + "".join("class=%s\nflags=0\n" % value + BARE for value in values)
 
 
 def method(name, returns, *types):
     """The listing of `typed`: parameters have no names, since their column is 0."""
-    lines = ["class=" + name, "flags=0", "method=" + name, "mflags=0", "returns=" + returns]
+    lines = ["method=" + name, "mflags=0", "returns=" + returns]
     for value in types:
         lines += ["ptype=" + value, "pname="]
-    return "stop=64\nclasses=1\n" + "".join(line + "\n" for line in lines)
+    return classes(name) + "".join(line + "\n" for line in lines)
 
 
 def every_byte():

@@ -18,7 +18,7 @@ ghost use Rattle.record.specs.Allowance.{nameWork, isOver};
 ghost use Rattle.rows.specs.Layout.{Laid, viewIn};
 ghost use Rattle.questions.specs.Questions.{numberCall, nameCall};
 ghost use Rattle.answers.specs.Known.{Knows};
-ghost use Rattle.lines.specs.Lines.{nameRoom, answerLine, nameLine, goesOn};
+ghost use Rattle.lines.specs.Lines.{nameRoom, numberedLine, nameLine, goesOn};
 ghost use Rattle.lines.specs.Ceiling.{listed};
 ghost use Rattle.lines.specs.Cursors.{Went};
 
@@ -28,7 +28,7 @@ pub struct Onward {
     pub known: Known,
 }
 
-// The line of a number, and where it goes on.
+// The line of a number, which may be one that may be missing, and where it goes on.
 pub fn number_line(
     out: &mut [u8],
     at: usize,
@@ -38,19 +38,20 @@ pub fn number_line(
     blob: &[u8],
     layout: &[u32],
     question: NumberQuestion,
+    optional: bool,
     next: Cursor,
     known: Known,
 ) -> Onward
     requires { ⌜ Laid (now tables) (now layout) ⌝ }
     requires { ⌜ Knows (viewIn (now tables) (now layout) (now strings) (now blob)) (now blob) known ⌝ }
     ensures { λ r. let v = viewIn (now (tables .entry)) (now (layout .entry)) (now (strings .entry)) (now (blob .entry)) in
-        ⌜ ((o : List ℕ) (key : Text) → Wrote o at key (now (out .entry)) start → Went (answerLine key (numberAnswer (numberCall question) v))
-        next o at (now (out .exit)) (r .step)) × Knows v (now (blob .entry)) (r .known) ⌝ }
+        ⌜ ((o : List ℕ) (key : Text) → Wrote o at key (now (out .entry)) start → Went
+        (numberedLine optional key (numberAnswer (numberCall question) v)) next o at (now (out .exit)) (r .step)) × Knows v (now (blob .entry)) (r .known) ⌝ }
 {
     let counted = answers::reply_number(tables, strings, blob, layout, question, known);
     let reply = counted.reply;
     let after = counted.known;
-    let step = lines::end_number(out, at, start, reply, next);
+    let step = lines::end_number(out, at, start, reply, optional, next);
     Onward { step, known: after }
 }
 

@@ -156,6 +156,14 @@ pub fn reply_number(
                 known: with_own(known, placed.own),
             }
         }
+        NumberQuestion::ClassPacking(c) => {
+            let reply = class_answers::class_packing_of(tables, layout, c);
+            Counted { reply, known }
+        }
+        NumberQuestion::ClassSize(c) => {
+            let reply = class_answers::class_size_of(tables, layout, c);
+            Counted { reply, known }
+        }
     }
 }
 

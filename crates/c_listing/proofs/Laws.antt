@@ -9,7 +9,7 @@ use Rattle.record.specs.View.{view}
 use Rattle.record.specs.Types.{look}
 use Rattle.lines.specs.Cursors.{cursor}
 use Rattle.lines.specs.declared.Place.{Place}
-use Rattle.lines.specs.declared.Place.the-variants.{Stop, Classes, Class, Flags, Generic, Base, Method, MethodFlags, MethodGeneric, Returns, ParamType, ParamName, Done}
+use Rattle.lines.specs.declared.Place.the-variants.{Stop, Classes, Class, Flags, Generic, Base, Method, MethodFlags, MethodGeneric, Returns, ParamType, ParamName, Done, Packing, Size}
 use Rattle.lines.specs.declared.Cursor.{Cursor}
 use Rattle.lines.specs.declared.Step.{Step}
 use Rattle.listing_steps.specs.Filling.{Piece, pieceOf, Filled}
@@ -44,6 +44,8 @@ place-returns Returns = refl
 place-returns ParamType = refl
 place-returns ParamName = refl
 place-returns Done = refl
+place-returns Packing = refl
+place-returns Size = refl
 
 pub cursors-return : CursorsReturn
 cursors-return c = ap (λ (p : Place). cursor p (c .class .0) (c .method) (c .i)) (place-returns (c .place))

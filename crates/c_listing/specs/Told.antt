@@ -8,7 +8,7 @@ use Rattle.buffers.specs.Replies.{value, nameBuffer}
 use Rattle.record.specs.Types.{look}
 use Rattle.lines.specs.Cursors.{cursor}
 use Rattle.lines.specs.declared.Place.{Place}
-use Rattle.lines.specs.declared.Place.the-variants.{Stop, Classes, Class, Flags, Generic, Base, Method, MethodFlags, MethodGeneric, Returns, ParamType, ParamName, Done}
+use Rattle.lines.specs.declared.Place.the-variants.{Stop, Classes, Class, Flags, Generic, Base, Method, MethodFlags, MethodGeneric, Returns, ParamType, ParamName, Done, Packing, Size}
 use Rattle.lines.specs.declared.Cursor.{Cursor}
 use Rattle.lines.specs.declared.Step.{Step}
 use Rattle.listing_steps.specs.Filling.{isDone, Piece}
@@ -30,12 +30,14 @@ placeNumber Returns = 9
 placeNumber ParamType = 10
 placeNumber ParamName = 11
 placeNumber Done = 12
+placeNumber Packing = 13
+placeNumber Size = 14
 
 -- The place that a number means: any other number is the end.
 unfoldable pub numberedPlaces : List (ℕ × Place)
 numberedPlaces =
     (0, Stop) ∷ (1, Classes) ∷ (2, Class) ∷ (3, Flags) ∷ (4, Generic) ∷ (5, Base) ∷ (6, Method) ∷ (7, MethodFlags) ∷
-    (8, MethodGeneric) ∷ (9, Returns) ∷ (10, ParamType) ∷ (11, ParamName) ∷
+    (8, MethodGeneric) ∷ (9, Returns) ∷ (10, ParamType) ∷ (11, ParamName) ∷ (13, Packing) ∷ (14, Size) ∷
     []
 
 abbrev pub placeOf : ℕ → Place

@@ -43,6 +43,8 @@ fn place_of(n: u32) -> Place
         9 => Place::Returns,
         10 => Place::ParamType,
         11 => Place::ParamName,
+        13 => Place::Packing,
+        14 => Place::Size,
         _ => Place::Done,
     }
 }
@@ -64,6 +66,8 @@ fn place_number(place: Place) -> u32
         Place::ParamType => 10,
         Place::ParamName => 11,
         Place::Done => 12,
+        Place::Packing => 13,
+        Place::Size => 14,
     }
 }
 

@@ -14,7 +14,7 @@ use Rattle.header.specs.declared.Opened.{Opened}
 use Rattle.header.specs.declared.Opened.the-variants.{Refused, Ready}
 use Rattle.record.specs.View.{View}
 use Rattle.record.specs.Types.{look}
-use Rattle.record.specs.Answers.{NumberCall, ClassCount, ClassFlags, GenericCount, BaseCount, MethodCount, MethodFlags, MethodGenericCount, ParameterCount}
+use Rattle.record.specs.Answers.{NumberCall, ClassCount, ClassFlags, GenericCount, BaseCount, MethodCount, MethodFlags, MethodGenericCount, ParameterCount, ClassPacking, ClassSize}
 use Rattle.record.specs.Answers.{NameCall, ClassName, GenericName, BaseName, MethodName, MethodGenericName, ReturnType, ParameterType, ParameterName}
 use Rattle.record.specs.Allowance.{Charged, numberCharged, nameCharged}
 use Rattle.questions.specs.Questions.{numberCall, nameCall}
@@ -41,6 +41,7 @@ unfoldable pub numberQuestions : ℕ → ℕ → List (ℕ × Option NumberCall)
 numberQuestions a b =
     (1, some ClassCount) ∷ (2, some (ClassFlags a)) ∷ (3, some (GenericCount a)) ∷ (4, some (BaseCount a)) ∷
     (5, some (MethodCount a)) ∷ (6, some (MethodFlags a b)) ∷ (7, some (MethodGenericCount a b)) ∷ (8, some (ParameterCount a b)) ∷
+    (9, some (ClassPacking a)) ∷ (10, some (ClassSize a)) ∷
     []
 
 unfoldable pub nameQuestions : ℕ → ℕ → ℕ → List (ℕ × Option NameCall)

@@ -59,6 +59,8 @@ pub fn number_asked(question: u32, a: u32, b: u32) -> NumberAsked
         6 => NumberAsked::Question(NumberQuestion::MethodFlags(class, b)),
         7 => NumberAsked::Question(NumberQuestion::MethodGenericCount(class, b)),
         8 => NumberAsked::Question(NumberQuestion::ParamCount(class, b)),
+        9 => NumberAsked::Question(NumberQuestion::ClassPacking(class)),
+        10 => NumberAsked::Question(NumberQuestion::ClassSize(class)),
         _ => NumberAsked::NoQuestion,
     }
 }

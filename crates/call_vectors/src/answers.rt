@@ -176,6 +176,12 @@ fn ask_plain_number(
     if same(call, b"class_flags") {
         return dotnet::class_flags(tables, strings, blob, options, class);
     }
+    if same(call, b"class_packing") {
+        return dotnet::class_packing(tables, strings, blob, options, class);
+    }
+    if same(call, b"class_size") {
+        return dotnet::class_size(tables, strings, blob, options, class);
+    }
     if same(call, b"generic_count") {
         return dotnet::generic_count(tables, strings, blob, options, class);
     }
@@ -229,6 +235,24 @@ fn ask_number_question(
             blob,
             asked,
             NumberQuestion::ClassFlags(class),
+        );
+    }
+    if same(call, b"class_packing") {
+        return put_number(
+            tables,
+            strings,
+            blob,
+            asked,
+            NumberQuestion::ClassPacking(class),
+        );
+    }
+    if same(call, b"class_size") {
+        return put_number(
+            tables,
+            strings,
+            blob,
+            asked,
+            NumberQuestion::ClassSize(class),
         );
     }
     if same(call, b"generic_count") {

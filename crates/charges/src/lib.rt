@@ -73,6 +73,8 @@ fn tally_number(
         NumberQuestion::MethodCount(_) => Steps::Left(steps),
         NumberQuestion::MethodFlags(_, _) => Steps::Left(steps),
         NumberQuestion::MethodGenericCount(_, _) => Steps::Left(steps),
+        NumberQuestion::ClassPacking(_) => Steps::Left(steps),
+        NumberQuestion::ClassSize(_) => Steps::Left(steps),
     }
 }
 

@@ -5,6 +5,7 @@ use buffers::Refusal;
 use buffers::Reply;
 use buffers::Told;
 use classes::ClassNumber;
+use keys::Row;
 use places::ClassRow;
 use rows::columns;
 use steps::Steps;
@@ -15,10 +16,11 @@ ghost use Rattle.buffers.specs.Texts.{Text};
 ghost use Rattle.buffers.specs.Writes.{Said, placeSays};
 ghost use Rattle.buffers.specs.Telling.{ToldIs};
 ghost use Rattle.bases.specs.Candidates.{KnowsBases};
-ghost use Rattle.record.specs.Answers.{Numbered, orNoRow, classFlags, className, genericCount, genericName, baseCount, baseName};
+ghost use Rattle.record.specs.Answers.{Numbered, orNoRow, classFlags, classPacking, classSize, className, genericCount, genericName, baseCount, baseName};
 ghost use Rattle.record.specs.Allowance.{countOf, baseWork};
 ghost use Rattle.rows.specs.Layout.{Laid, viewIn};
 ghost use Rattle.steps.specs.Counting.{Takes};
+ghost use Rattle.class_answers.specs.Layouts.{LayoutRowIs};
 
 // What the answer for a base type came to, and what is known of base types after it.
 pub struct ToldBase {
@@ -39,6 +41,50 @@ pub fn class_flags_of(tables: &[u8], layout: &[u32], class: ClassNumber) -> Repl
             Reply::Is(flags as usize)
         }
         ClassRow::NoRow => Reply::No(Refusal::NoSuchRow),
+    }
+}
+
+// The first ClassLayout row of a class (II.22.8), from 0: none where there is no such class, or no row whose Parent column, as stored, is its
+// TypeDef row.
+fn layout_row(tables: &[u8], layout: &[u32], class: ClassNumber) -> Row
+    requires { ⌜ Laid (now tables) (now layout) ⌝ }
+    ensures { λ r. ⌜ LayoutRowIs (now (tables .entry)) (now (layout .entry)) (class .0) r ⌝ }
+{
+    match places::class_row(layout, class) {
+        ClassRow::Row(row) => {
+            keys::find_key(tables, layout, columns::LAYOUT_PARENT, row.0 as usize, 0)
+        }
+        ClassRow::NoRow => Row::NoRow,
+    }
+}
+
+// The packing of a class, as its first ClassLayout row has it.
+pub fn class_packing_of(tables: &[u8], layout: &[u32], class: ClassNumber) -> Reply
+    requires { ⌜ Laid (now tables) (now layout) ⌝ }
+    ensures { λ r.
+        ⌜ ((strings blob : List ℕ) → Numbered (classPacking (viewIn (now (tables .entry)) (now (layout .entry)) strings blob) (class .0)) r) ⌝ }
+{
+    match layout_row(tables, layout, class) {
+        Row::At(i) => {
+            let packing = rows::read_column(tables, layout, columns::PACKING_SIZE, i);
+            Reply::Is(packing as usize)
+        }
+        Row::NoRow => Reply::No(Refusal::NoSuchRow),
+    }
+}
+
+// The size of a class, in the same way.
+pub fn class_size_of(tables: &[u8], layout: &[u32], class: ClassNumber) -> Reply
+    requires { ⌜ Laid (now tables) (now layout) ⌝ }
+    ensures { λ r.
+        ⌜ ((strings blob : List ℕ) → Numbered (classSize (viewIn (now (tables .entry)) (now (layout .entry)) strings blob) (class .0)) r) ⌝ }
+{
+    match layout_row(tables, layout, class) {
+        Row::At(i) => {
+            let size = rows::read_column(tables, layout, columns::CLASS_SIZE, i);
+            Reply::Is(size as usize)
+        }
+        Row::NoRow => Reply::No(Refusal::NoSuchRow),
     }
 }
 

@@ -17,7 +17,7 @@ ghost use Rattle.header.specs.Stream.{base};
 ghost use Rattle.heaps.specs.Lookups.{Looked};
 ghost use Rattle.tables.specs.Extents.{walkSays, walkOf};
 ghost use Rattle.record.specs.View.{view};
-ghost use Rattle.record.specs.Answers.{Numbered, classCount, classFlags, className, genericCount, genericName, methodCount, methodFlags, methodName, methodGenericCount, methodGenericName};
+ghost use Rattle.record.specs.Answers.{Numbered, classCount, classFlags, classPacking, classSize, className, genericCount, genericName, methodCount, methodFlags, methodName, methodGenericCount, methodGenericName};
 ghost use Rattle.record.specs.Answers.{BaseCount, BaseName, ReturnType, ParameterCount, ParameterType, ParameterName};
 ghost use Rattle.record.specs.Allowance.{numberCharged, nameCharged, NumberedCharged, NamedCharged};
 ghost use Rattle.questions.specs.Questions.{numberCall, nameCall};
@@ -77,6 +77,32 @@ pub fn class_flags(
     ensures { λ r. ⌜ Numbered (classFlags (view options (now (tables .entry)) (now (strings .entry)) (now (blob .entry))) (class .0)) r ⌝ }
 {
     class_calls::class_flags(tables, strings, blob, options, class)
+}
+
+// The packing of a class (II.22.8), as its first ClassLayout row has it.
+pub fn class_packing(
+    tables: &[u8],
+    strings: &[u8],
+    blob: &[u8],
+    options: Options,
+    class: ClassNumber,
+) -> Reply
+    ensures { λ r. ⌜ Numbered (classPacking (view options (now (tables .entry)) (now (strings .entry)) (now (blob .entry))) (class .0)) r ⌝ }
+{
+    class_calls::class_packing(tables, strings, blob, options, class)
+}
+
+// Its size, in the same way.
+pub fn class_size(
+    tables: &[u8],
+    strings: &[u8],
+    blob: &[u8],
+    options: Options,
+    class: ClassNumber,
+) -> Reply
+    ensures { λ r. ⌜ Numbered (classSize (view options (now (tables .entry)) (now (strings .entry)) (now (blob .entry))) (class .0)) r ⌝ }
+{
+    class_calls::class_size(tables, strings, blob, options, class)
 }
 
 // The full name of a class.

@@ -13,7 +13,7 @@ use classes::ClassNumber;
 ghost use mathlib.Core.Path.{_≡_};
 ghost use Rattle.tables.specs.Extents.{walkOf};
 ghost use Rattle.record.specs.View.{view};
-ghost use Rattle.record.specs.Answers.{classCount, classFlags, className, genericCount, genericName, methodCount, methodFlags, methodName, methodGenericCount, methodGenericName};
+ghost use Rattle.record.specs.Answers.{classCount, classFlags, classPacking, classSize, className, genericCount, genericName, methodCount, methodFlags, methodName, methodGenericCount, methodGenericName};
 ghost use Rattle.record.specs.Answers.{BaseCount, BaseName, ReturnType, ParameterCount, ParameterType, ParameterName};
 ghost use Rattle.record.specs.Allowance.{numberCharged, nameCharged};
 ghost use lib.ListN.{length, replicate};
@@ -105,6 +105,48 @@ pub extern "C" fn dn_class_flags(
         ⌜ r ≡ told (classFlags v class) ⌝ }
 {
     c_replies::reply_of(dotnet::class_flags(
+        tables,
+        strings,
+        blob,
+        options_of(options),
+        ClassNumber(class),
+    ))
+}
+
+// The packing of a class (II.22.8), as its first ClassLayout row has it.
+#[no_mangle]
+pub extern "C" fn dn_class_packing(
+    tables: &[u8],
+    strings: &[u8],
+    blob: &[u8],
+    options: u32,
+    class: u32,
+) -> DnReply
+    ensures { λ r. let v = view (optionsOf options) (now (tables .entry)) (now (strings .entry)) (now (blob .entry)) in
+        ⌜ r ≡ told (classPacking v class) ⌝ }
+{
+    c_replies::reply_of(dotnet::class_packing(
+        tables,
+        strings,
+        blob,
+        options_of(options),
+        ClassNumber(class),
+    ))
+}
+
+// Its size, in the same way.
+#[no_mangle]
+pub extern "C" fn dn_class_size(
+    tables: &[u8],
+    strings: &[u8],
+    blob: &[u8],
+    options: u32,
+    class: u32,
+) -> DnReply
+    ensures { λ r. let v = view (optionsOf options) (now (tables .entry)) (now (strings .entry)) (now (blob .entry)) in
+        ⌜ r ≡ told (classSize v class) ⌝ }
+{
+    c_replies::reply_of(dotnet::class_size(
         tables,
         strings,
         blob,

@@ -45,7 +45,8 @@ copy-end l w i h c =
 told-none : (t l : List ℕ) (j : ℕ) (w : List ℕ) → heldLength w j ≡ 0 → Told t l j (heldAt w j)
 told-none t l zero w e = subst (Told t l zero) (sym (held-none w zero e)) (sorted-none _ _)
 told-none t l (suc zero) w e = subst (Told t l (suc zero)) (sym (held-none w (suc zero) e)) (sorted-none _ _)
-told-none t l (suc (suc j)) w e = subst (Told t l (suc (suc j))) (sym (held-none w (suc (suc j)) e)) (nested-none _ _ _)
+told-none t l (suc (suc zero)) w e = subst (Told t l (suc (suc zero))) (sym (held-none w (suc (suc zero)) e)) (nested-none _ _ _)
+told-none t l (suc (suc (suc j))) w e = subst (Told t l (suc (suc (suc j)))) (sym (held-none w (suc (suc (suc j))) e)) (sorted-none _ _)
 
 pub hold-start : (t l w : List ℕ) → columns.size ≤ length w → Bare l w → Holding t l w columns.size
 hold-start t l w h b =
@@ -164,6 +165,6 @@ hold-end {t} {l} w laid h =
       laid =
           relaid w laid (λ i b. h .same i (omega arith)) (omega (arith, h .order, h .long)) (λ e. laid .marked (sym (h .same columns.mark (omega arith)) ∙ e))
           (λ j b. omega (arith, h .inside j b, h .long)) (h .behind) (h .told columns.byOwner (omega arith)) (h .told columns.byClass (omega arith))
-          (h .told columns.byNested (omega arith));
+          (h .told columns.byParent (omega arith)) (h .told columns.byNested (omega arith));
       options = same-options w laid (λ i b. h .same i (omega arith));
     }

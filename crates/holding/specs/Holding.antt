@@ -11,7 +11,8 @@ use Rattle.rows.specs.Held.{Sorted, Nested}
 abbrev pub Told : List ℕ → List ℕ → ℕ → List ℕ → Type 0
 Told t l zero m = Sorted (cell t l columns.owner) (rowsAt l columns.owner) m
 Told t l (suc zero) m = Sorted (cell t l columns.implClass) (rowsAt l columns.implClass) m
-Told t l (suc (suc j)) m = Nested (cell t l columns.nested) (cell t l columns.enclosing) (rowsAt l columns.nested) m
+Told t l (suc (suc zero)) m = Nested (cell t l columns.nested) (cell t l columns.enclosing) (rowsAt l columns.nested) m
+Told t l (suc (suc (suc j))) m = Sorted (cell t l columns.layoutParent) (rowsAt l columns.layoutParent) m
 
 -- w begins with the words of the layout l, but says that there are no memories.
 pub record Bare (l w : List ℕ) : Type 0 where

@@ -1,6 +1,7 @@
 // Fill the memories by which rows are found (crates buckets and nests): the layout is copied to the front of words that are lent, and what is
-// behind it is cut into three, for GenericParam by Owner, NestedClass, and InterfaceImpl by Class, in this order, as they are asked for most.
-// One for which there are not enough words gets none, and then rows are searched for one by one. What the words held before means nothing.
+// behind it is cut into four, for GenericParam by Owner, NestedClass, InterfaceImpl by Class, and ClassLayout by Parent, in this order, as
+// they are asked for most. One for which there are not enough words gets none, and then rows are searched for one by one; a table without
+// rows needs none. What the words held before means nothing.
 use rows::columns;
 ghost use mathlib.Core.Path.{_≡_};
 ghost use mathlib.Core.List.{List};
@@ -69,7 +70,11 @@ fn hold_sorted(
     requires { ⌜ Holding (now tables) (now layout) (now work) at ⌝ }
     ensures { λ r. ⌜ Holding (now (tables .entry)) (now (layout .entry)) (now (work .exit)) r ⌝ }
 {
-    let end = at + keys + rows::count_rows(layout, column);
+    let n = rows::count_rows(layout, column);
+    if n == 0 {
+        return at;
+    }
+    let end = at + keys + n;
     if work.len() < end {
         return at;
     }
@@ -88,7 +93,11 @@ fn hold_nested(work: &mut [u32], tables: &[u8], layout: &[u32], at: usize, keys:
     requires { ⌜ Holding (now tables) (now layout) (now work) at ⌝ }
     ensures { λ r. ⌜ Holding (now (tables .entry)) (now (layout .entry)) (now (work .exit)) r ⌝ }
 {
-    let end = at + keys + rows::count_rows(layout, columns::NESTED);
+    let n = rows::count_rows(layout, columns::NESTED);
+    if n == 0 {
+        return at;
+    }
+    let end = at + keys + n;
     if work.len() < end {
         return at;
     }
@@ -120,13 +129,22 @@ pub fn hold(work: &mut [u32], tables: &[u8], layout: &[u32])
         owners,
     );
     let class_at = hold_nested(work, tables, layout, nested_at, types + NESTED_KEYS);
-    let _end = hold_sorted(
+    let layout_at = hold_sorted(
         work,
         tables,
         layout,
         columns::IMPL_CLASS,
         columns::BY_CLASS,
         class_at,
+        types + CLASS_KEYS,
+    );
+    let _end = hold_sorted(
+        work,
+        tables,
+        layout,
+        columns::LAYOUT_PARENT,
+        columns::BY_PARENT,
+        layout_at,
         types + CLASS_KEYS,
     );
 }

@@ -16,7 +16,7 @@ use Rattle.heaps.specs.Lookups.{Name, name}
 use Rattle.tables.specs.Extents.{sizesIn}
 use Rattle.record.specs.Rows.{ofKey}
 use Rattle.record.specs.Columns.{column, genericName, implInterface}
-use Rattle.record.specs.View.{viewOf, sideRow, sideRows}
+use Rattle.record.specs.View.{ClassLayout, layoutIn, viewOf, sideRow, sideRows}
 use Rattle.record.proofs.Keyed.{cut}
 use Rattle.layouts.specs.Read.{readColumn}
 use Rattle.rows.specs.Columns as columns
@@ -216,3 +216,22 @@ module _ {t l : List ℕ} (laid : Laid t l) (strings blob : List ℕ) (k : ℕ) 
   -- Behind the row that was found there is one more of the class.
   pub interfaces-passed : (nth i : ℕ) {r : Row} → FindsClass nth r → r ≡ At i → nth + 1 ≡ keyed (cell t l columns.implClass) k (i + 1)
   interfaces-passed nth i h e = let found = subst (FindsClass nth) e h in key-met _ k i refl (found .1) (sym (found .2))
+
+-- ---- The first ClassLayout row of a class, by the view
+
+module _ {t l : List ℕ} (laid : Laid t l) (strings blob : List ℕ) (k : ℕ) where
+  -- What a search among the parents for the first row finds.
+  abbrev FindsParent : Row → Type 0
+  FindsParent = FoundIs (cell t l columns.layoutParent) k (rowsAt l columns.layoutParent) 0
+
+  abbrev layoutAt : List ℕ → ClassLayout
+  layoutAt = layoutIn (sizesIn (optionsIn l) (headerIn t l))
+
+  pub layout-found : (i : ℕ) → FindsParent (At i)
+      → viewIn t l strings blob .layout k ≡ some (record { packing = cell t l columns.packingSize i; size = cell t l columns.classSize i })
+  unfolding viewOf
+  layout-found i h = listed-item laid columns.layoutParent (omega arith) layoutAt k 0 i h
+
+  pub layout-missed : FindsParent NoRow → viewIn t l strings blob .layout k ≡ none
+  unfolding viewOf
+  layout-missed h = listed-past laid columns.layoutParent (omega arith) layoutAt k 0 h

@@ -49,6 +49,9 @@ fn memory_of<'a>(tables: &[u8], layout: &'a [u32], column: usize) -> &'a [u32]
     if column == rows::columns::IMPL_CLASS {
         return rows::memory_at(layout, rows::columns::BY_CLASS);
     }
+    if column == rows::columns::LAYOUT_PARENT {
+        return rows::memory_at(layout, rows::columns::BY_PARENT);
+    }
     &layout[..0]
 }
 

@@ -3,7 +3,7 @@ use mathlib.Core.List.{List, [], _∷_}
 use Prim.Native.Nat.{ℕ}
 use lib.ListN.{length, take, getD}
 use Rattle.layouts.specs.declared.IndexSizes.{IndexSizes}
-use Rattle.layouts.specs.Kinds.{typeRef, typeDef, methodDef, param, interfaceImpl, typeSpec, nestedClass, genericParam}
+use Rattle.layouts.specs.Kinds.{typeRef, typeDef, methodDef, param, interfaceImpl, classLayout, typeSpec, nestedClass, genericParam}
 use Rattle.layouts.specs.Columns.{Two, columnsOf, widthIn, sumOf}
 
 -- A column of a table, by the table's kind and the column's place in its rows, from 0.
@@ -32,7 +32,9 @@ readColumns =
     -- 15, 16  NestedClass, II.22.32: NestedClass, EnclosingClass
     of nestedClass 0 ∷ of nestedClass 1 ∷
     -- 17, 18  GenericParam, II.22.20: Owner, Name
-    of genericParam 2 ∷ of genericParam 3 ∷ []
+    of genericParam 2 ∷ of genericParam 3 ∷
+    -- 19 to 21  ClassLayout, II.22.8: PackingSize, ClassSize, Parent
+    of classLayout 0 ∷ of classLayout 1 ∷ of classLayout 2 ∷ []
 
 abbrev pub readCount : ℕ
 readCount = length readColumns

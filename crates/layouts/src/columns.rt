@@ -1,5 +1,5 @@
 // The columns that are read, in the order of specs/Read.antt, as the Rust's row parsers take them (`parse_type_defs` and the like, and
-// the readers of a record of TypeRef, TypeSpec and InterfaceImpl).
+// the readers of a record of TypeRef, TypeSpec and InterfaceImpl); and those of ClassLayout, which the Rust skips.
 use super::IndexSizes;
 use super::kinds;
 use super::sum;
@@ -9,7 +9,7 @@ ghost use mathlib.Core.List.{map};
 ghost use Rattle.layouts.specs.Read.{readColumns, offsetIn, bytesIn};
 
 // How many there are.
-pub const COUNT: usize = 19;
+pub const COUNT: usize = 22;
 
 // The table of each.
 pub fn column_kinds() -> [usize; COUNT]
@@ -43,6 +43,10 @@ pub fn column_kinds() -> [usize; COUNT]
         // GenericParam, II.22.20: Owner, Name
         kinds::GENERIC_PARAM as usize,
         kinds::GENERIC_PARAM as usize,
+        // ClassLayout, II.22.8: PackingSize, ClassSize, Parent
+        kinds::CLASS_LAYOUT as usize,
+        kinds::CLASS_LAYOUT as usize,
+        kinds::CLASS_LAYOUT as usize,
     ]
 }
 
@@ -78,6 +82,10 @@ pub fn column_offsets(w: IndexSizes) -> [u32; COUNT]
         // GenericParam: Owner, Name
         4,
         sum(4, w.type_or_method_def, 0, 0, 0, 0),
+        // ClassLayout: PackingSize, ClassSize, Parent
+        0,
+        2,
+        6,
     ]
 }
 
@@ -113,5 +121,9 @@ pub fn column_widths(w: IndexSizes) -> [u32; COUNT]
         // GenericParam: Owner, Name
         wide(w.type_or_method_def),
         wide(w.string),
+        // ClassLayout: PackingSize, ClassSize, Parent
+        2,
+        4,
+        wide(w.type_def),
     ]
 }

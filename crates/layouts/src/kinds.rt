@@ -18,6 +18,8 @@ pub const INTERFACE_IMPL: u8 = 0x09;
 pub const MEMBER_REF: u8 = 0x0A;
 // II.22.11
 pub const DECL_SECURITY: u8 = 0x0E;
+// II.22.8
+pub const CLASS_LAYOUT: u8 = 0x0F;
 // II.22.36
 pub const STAND_ALONE_SIG: u8 = 0x11;
 // II.22.13

@@ -11,7 +11,7 @@ use Rattle.lines.specs.Lines.{goesOn}
 use Rattle.lines.specs.Ceiling.{comesFirst, beyond, listed}
 use Rattle.lines.specs.Cursors.{cursor, done, nextNumber, afterStop, nextAt, placeWork, isOverAt, countsAnew}
 use Rattle.lines.specs.declared.Place.{Place}
-use Rattle.lines.specs.declared.Place.the-variants.{Stop, Classes, Class, Flags, Generic, Base, Method, MethodFlags, MethodGeneric, Returns, ParamType, ParamName, Done}
+use Rattle.lines.specs.declared.Place.the-variants.{Stop, Classes, Class, Flags, Generic, Base, Method, MethodFlags, MethodGeneric, Returns, ParamType, ParamName, Done, Packing, Size}
 use Rattle.lines.specs.declared.Cursor.{Cursor}
 
 module _ (call : NameCall) (v : View) where
@@ -36,6 +36,8 @@ module _ (v : View) where
       go Classes k m = refl
       go Class k m = refl
       go Flags k m = refl
+      go Packing k m = refl
+      go Size k m = refl
       go Generic k m = refl
       go Base k m = all (BaseName k 0)
       go Method k m = refl
@@ -73,6 +75,8 @@ module _ (v : View) where
       go Classes k m i w = λ _. refl
       go Class k m i w = either-stays (goesOn (className v k)) (cursor Flags k 0 0) done (λ _. refl) (λ _. refl)
       go Flags k m i w = λ _. refl
+      go Packing k m i w = λ _. refl
+      go Size k m i w = λ _. refl
       go Generic k m i w = either-stays (goesOn (genericName v k i)) (cursor Generic k 0 (nextNumber i)) (cursor Base k 0 0) (λ _. refl) (λ h. absurd (subst T h tt))
       go Base k m i w = either-stays (goesOn (listed (BaseName k i) v)) (cursor Base k 0 (nextNumber i)) (cursor Method k 0 0) (λ _. w) (λ _. refl)
       go Method k m i w = either-stays (goesOn (methodName v k m)) (cursor MethodFlags k m 0) (cursor Class (nextNumber k) 0 0) (λ _. refl) (λ _. refl)

@@ -1,6 +1,6 @@
 -- From what the code does at a place to a step of the definition: one law for each place. Assumes nothing.
 use mathlib.Core.Path.{_≡_, ap}
-use mathlib.Core.Bool.{cond}
+use mathlib.Core.Bool.{Bool, true, false, cond}
 use mathlib.Core.List.{List, []}
 use Prim.Native.Nat.{ℕ}
 use Rattle.buffers.specs.Texts.{Text, q}
@@ -11,15 +11,15 @@ use Rattle.buffers.specs.declared.Reply.{Reply}
 use Rattle.buffers.specs.declared.Reply.the-variants.{Is, No}
 use Rattle.header.specs.declared.Options.{Options}
 use Rattle.record.specs.View.{View, viewOf, view}
-use Rattle.record.specs.Answers.{classCount, classFlags, methodFlags}
+use Rattle.record.specs.Answers.{classCount, classFlags, classPacking, classSize, methodFlags}
 use Rattle.record.specs.Answers.{ClassName, GenericName, BaseName, MethodName, MethodGenericName, ReturnType, ParameterType, ParameterName}
 use Rattle.tables.specs.Extents.{walkSays, walkOf}
 use Rattle.tables.specs.declared.Extents.{Extents}
-use Rattle.lines.specs.Lines.{numberLine, refusedLine, answerLine, nameLine, goesOn}
+use Rattle.lines.specs.Lines.{numberLine, refusedLine, numberedLine, nameLine, goesOn}
 use Rattle.record.specs.Allowance.{isOver}
 use Rattle.lines.specs.Ceiling.{listed}
 use Rattle.lines.specs.Cursors.{cursor, done, nextNumber, stopLine, afterStop, lineAt, nextAt, ShowsNumber, ShowsName, Went, Stepped}
-use Rattle.lines.specs.declared.Place.the-variants.{Stop, Classes, Class, Flags, Generic, Base, Method, MethodFlags, MethodGeneric, Returns, ParamType, ParamName, Done}
+use Rattle.lines.specs.declared.Place.the-variants.{Stop, Classes, Class, Flags, Generic, Base, Method, MethodFlags, MethodGeneric, Returns, ParamType, ParamName, Done, Packing, Size}
 use Rattle.lines.specs.declared.Cursor.{Cursor}
 use Rattle.lines.specs.declared.Step.{Step}
 
@@ -46,7 +46,7 @@ module _ (v : View) (c : Cursor) where
   abbrev k : ℕ
   k = c .class .0
 
-  pub classes-shows : {x : Cursor} → c .place ≡ Classes → x ≡ cursor Class 0 0 0 → ShowsNumber v c (q "classes=") (classCount v) x
+  pub classes-shows : {x : Cursor} → c .place ≡ Classes → x ≡ cursor Class 0 0 0 → ShowsNumber v c (q "classes=") false (classCount v) x
   unfolding lineAt nextAt
   classes-shows e f = record { line = rw e; next = rw (e, f) }
 
@@ -55,9 +55,17 @@ module _ (v : View) (c : Cursor) where
   unfolding listed isOver lineAt nextAt
   class-shows e f g = record { line = rw e; next = rw (e, f, g) }
 
-  pub flags-shows : {x : Cursor} → c .place ≡ Flags → x ≡ cursor Generic k 0 0 → ShowsNumber v c (q "flags=") (classFlags v k) x
+  pub flags-shows : {x : Cursor} → c .place ≡ Flags → x ≡ cursor Packing k 0 0 → ShowsNumber v c (q "flags=") false (classFlags v k) x
   unfolding lineAt nextAt
   flags-shows e f = record { line = rw e; next = rw (e, f) }
+
+  pub packing-shows : {x : Cursor} → c .place ≡ Packing → x ≡ cursor Size k 0 0 → ShowsNumber v c (q "packing=") true (classPacking v k) x
+  unfolding lineAt nextAt
+  packing-shows e f = record { line = rw e; next = rw (e, f) }
+
+  pub size-shows : {x : Cursor} → c .place ≡ Size → x ≡ cursor Generic k 0 0 → ShowsNumber v c (q "size=") true (classSize v k) x
+  unfolding lineAt nextAt
+  size-shows e f = record { line = rw e; next = rw (e, f) }
 
   pub generic-shows : {j : ℕ} {x y : Cursor} → c .place ≡ Generic → j ≡ nextNumber (c .i) → x ≡ cursor Generic k 0 j
       → y ≡ cursor Base k 0 0 → ShowsName v c (q "generic=") (listed (GenericName k (c .i)) v) x y
@@ -75,7 +83,7 @@ module _ (v : View) (c : Cursor) where
   method-shows e f n g = record { line = rw e; next = rw (e, f, g, n) }
 
   pub method-flags-shows : {x : Cursor} → c .place ≡ MethodFlags → x ≡ cursor MethodGeneric k (c .method) 0
-      → ShowsNumber v c (q "mflags=") (methodFlags v k (c .method)) x
+      → ShowsNumber v c (q "mflags=") false (methodFlags v k (c .method)) x
   unfolding lineAt nextAt
   method-flags-shows e f = record { line = rw e; next = rw (e, f) }
 
@@ -109,7 +117,8 @@ done-goes v c m i e w = record { wrote = w; goes = e }
 
 -- A step by what the line shows.
 module _ {v : View} {c : Cursor} {key : Text} {o o′ : List ℕ} {at : ℕ} {s : Step} where
-  pub number-steps : {a : Answer ℕ} {to : Cursor} → ShowsNumber v c key a to → Went (answerLine key a) to o at o′ s → Stepped v c o at o′ s
+  pub number-steps : {optional : Bool} {a : Answer ℕ} {to : Cursor} → ShowsNumber v c key optional a to → Went (numberedLine optional key a) to o at o′ s
+      → Stepped v c o at o′ s
   number-steps h w = rw (h .line, h .next) w
 
   pub name-steps : {a : Answer Text} {more past : Cursor} → ShowsName v c key a more past

@@ -11,13 +11,13 @@ use Rattle.buffers.specs.Texts.{Text, q}
 use Rattle.buffers.specs.Writes.{Wrote}
 use Rattle.buffers.specs.Replies.{Answer, refused, value}
 use Rattle.record.specs.View.{View}
-use Rattle.record.specs.Answers.{walkAnswer, classCount, classFlags, className, genericName, methodName, methodFlags, methodGenericName}
+use Rattle.record.specs.Answers.{walkAnswer, classCount, classFlags, classPacking, classSize, className, genericName, methodName, methodFlags, methodGenericName}
 use Rattle.record.specs.Answers.{BaseName, ReturnType, ParameterType, ParameterName}
 use Rattle.record.specs.Allowance.{baseWork, methodWork, isOver}
-use Rattle.lines.specs.Lines.{numberLine, refusedLine, answerLine, nameLine, goesOn}
+use Rattle.lines.specs.Lines.{numberLine, refusedLine, answerLine, orKeyLine, numberedLine, nameLine, goesOn}
 use Rattle.lines.specs.Ceiling.{listed}
 use Rattle.lines.specs.declared.Place.{Place}
-use Rattle.lines.specs.declared.Place.the-variants.{Stop, Classes, Class, Flags, Generic, Base, Method, MethodFlags, MethodGeneric, Returns, ParamType, ParamName, Done}
+use Rattle.lines.specs.declared.Place.the-variants.{Stop, Classes, Class, Flags, Generic, Base, Method, MethodFlags, MethodGeneric, Returns, ParamType, ParamName, Done, Packing, Size}
 use Rattle.lines.specs.declared.Cursor.{Cursor}
 use Rattle.lines.specs.declared.Step.{Step}
 
@@ -49,6 +49,8 @@ placeLine v Stop c m i = stopLine (walkAnswer v .stop)
 placeLine v Classes c m i = answerLine (q "classes=") (classCount v)
 placeLine v Class c m i = nameLine (q "class=") (className v c)
 placeLine v Flags c m i = answerLine (q "flags=") (classFlags v c)
+placeLine v Packing c m i = orKeyLine (q "packing=") (classPacking v c)
+placeLine v Size c m i = orKeyLine (q "size=") (classSize v c)
 placeLine v Generic c m i = nameLine (q "generic=") (genericName v c i)
 placeLine v Base c m i = nameLine (q "base=") (listed (BaseName c i) v)
 placeLine v Method c m i = nameLine (q "method=") (methodName v c m)
@@ -64,7 +66,9 @@ abbrev pub placeNext : View → Place → ℕ → ℕ → ℕ → Cursor
 placeNext v Stop c m i = afterStop (walkAnswer v .stop)
 placeNext v Classes c m i = cursor Class 0 0 0
 placeNext v Class c m i = cond (goesOn (className v c)) (cursor Flags c 0 0) done
-placeNext v Flags c m i = cursor Generic c 0 0
+placeNext v Flags c m i = cursor Packing c 0 0
+placeNext v Packing c m i = cursor Size c 0 0
+placeNext v Size c m i = cursor Generic c 0 0
 placeNext v Generic c m i = cond (goesOn (genericName v c i)) (cursor Generic c 0 (nextNumber i)) (cursor Base c 0 0)
 placeNext v Base c m i = cond (goesOn (listed (BaseName c i) v)) (cursor Base c 0 (nextNumber i)) (cursor Method c 0 0)
 placeNext v Method c m i = cond (goesOn (methodName v c m)) (cursor MethodFlags c m 0) (cursor Class (nextNumber c) 0 0)
@@ -87,6 +91,8 @@ placeWork v Stop c m = value 0
 placeWork v Classes c m = value 0
 placeWork v Class c m = value 0
 placeWork v Flags c m = value 0
+placeWork v Packing c m = value 0
+placeWork v Size c m = value 0
 placeWork v Generic c m = value 0
 placeWork v Base c m = baseWork v c
 placeWork v Method c m = value 0
@@ -106,6 +112,8 @@ countsAnew Stop i = false
 countsAnew Classes i = false
 countsAnew Class i = false
 countsAnew Flags i = false
+countsAnew Packing i = false
+countsAnew Size i = false
 countsAnew Generic i = false
 countsAnew Base i = eqb i 0
 countsAnew Method i = false
@@ -116,9 +124,9 @@ countsAnew ParamType i = false
 countsAnew ParamName i = false
 countsAnew Done i = false
 
--- The line at a cursor shows the number that is an answer, behind a key, and goes on there.
-pub record ShowsNumber (v : View) (c : Cursor) (key : Text) (a : Answer ℕ) (to : Cursor) : Type 0 where
-  pub line : lineAt v c ≡ answerLine key a
+-- The line at a cursor shows the number that is an answer, behind a key, and goes on there. The number may be one that may be missing.
+pub record ShowsNumber (v : View) (c : Cursor) (key : Text) (optional : Bool) (a : Answer ℕ) (to : Cursor) : Type 0 where
+  pub line : lineAt v c ≡ numberedLine optional key a
   pub next : nextAt v c ≡ to
 
 -- It shows the name that is an answer. Where it goes on depends on whether there is a line.

@@ -1,6 +1,6 @@
 -- The lines of the listing (document 01, "The listing program"): a key, a value, and the byte 0x0A. How a value is written stands in
 -- escapes/Escapes (2026-05).
-use mathlib.Core.Bool.{Bool, true, cond, _||_}
+use mathlib.Core.Bool.{Bool, true, false, cond, _||_}
 use mathlib.Core.List.{[], _∷_, _++_}
 use mathlib.Core.Option.{Option, none, some}
 use Prim.Native.Nat.{ℕ, _+_}
@@ -8,7 +8,7 @@ use lib.Dec.{eqb}
 use Rattle.buffers.specs.Texts.{Text, q, decimal}
 use Rattle.buffers.specs.Replies.{number, Answer, refused, value}
 use Rattle.buffers.specs.declared.Reason.the-variants.{Untold}
-use Rattle.buffers.specs.declared.Refusal.the-variants.{NoName, BufferTooSmall, TooManySteps}
+use Rattle.buffers.specs.declared.Refusal.the-variants.{NoSuchRow, NoName, BufferTooSmall, TooManySteps}
 use Rattle.escapes.specs.Escapes.{escaped, longest, shown}
 
 unfoldable pub line : Text → Text → Text
@@ -34,6 +34,11 @@ abbrev pub valueLine : Text → Option Text → Text
 valueLine key none = line key []
 valueLine key (some t) = line key (shown t)
 
+-- A number that may be missing: then the key alone.
+abbrev pub numberOrKey : Text → Option ℕ → Text
+numberOrKey key none = line key []
+numberOrKey key (some n) = numberLine key n
+
 -- A refusal is the only line.
 abbrev pub refusedLine : ℕ → Text
 refusedLine n = numberLine (q "refused=") n
@@ -42,6 +47,18 @@ refusedLine n = numberLine (q "refused=") n
 abbrev pub answerLine : Text → Answer ℕ → Text
 answerLine key (value n) = numberLine key n
 answerLine key (refused w) = []
+
+-- The same of a number that may be missing, as 4 says: then the key alone. Any other number refuses the streams, which have no such line.
+abbrev pub isMissing : Answer ℕ → Bool
+isMissing (value n) = false
+isMissing (refused w) = eqb (w .number) (number NoSuchRow)
+
+abbrev pub orKeyLine : Text → Answer ℕ → Text
+orKeyLine key a = cond (isMissing a) (line key []) (answerLine key a)
+
+-- By whether the number is one that may be missing.
+abbrev pub numberedLine : Bool → Text → Answer ℕ → Text
+numberedLine optional key a = cond optional (orKeyLine key a) (answerLine key a)
 
 -- The line of a name by its answer. 5 says that the name is missing, 6 that it is too long, and 11 that it takes too many steps. Any other
 -- number says that there is no such row, and so no line.

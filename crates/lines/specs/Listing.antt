@@ -10,10 +10,11 @@ use Rattle.heaps.specs.Lookups.{textOf}
 use Rattle.bundle.specs.Input.{bundleOf, bundleSays}
 use Rattle.header.specs.Stream.{base}
 use Rattle.record.specs.View.{View, view}
+use Rattle.record.specs.Missing.{over}
 use Rattle.record.specs.Record.{Parameter, Method, Class}
 use Rattle.record.specs.Answers.{_⟫_, walkAnswer, theClasses}
 use Rattle.record.specs.Allowance.{baseWork, methodWork, isOver}
-use Rattle.lines.specs.Lines.{numberLine, valueLine, spentLine, refusedLine}
+use Rattle.lines.specs.Lines.{numberLine, valueLine, numberOrKey, spentLine, refusedLine}
 
 -- The lines of each item of a list, one after the other.
 unfoldable pub each : {A : Type 0} → (A → Text) → List A → Text
@@ -51,9 +52,11 @@ unfoldable pub classLines : View → ℕ → Class → Text
 classLines v c k =
     valueLine (q "class=") (textOf (k .name))
     ++ (numberLine (q "flags=") (k .flags)
+    ++ (numberOrKey (q "packing=") (over (λ l. l .packing) (k .layout))
+    ++ (numberOrKey (q "size=") (over (λ l. l .size) (k .layout))
     ++ (each (λ g. valueLine (q "generic=") (textOf g)) (k .generics)
     ++ (baseLines (isOver (baseWork v c)) (k .bases)
-    ++ eachFrom (methodLines v c) 0 (k .methods))))
+    ++ eachFrom (methodLines v c) 0 (k .methods))))))
 
 -- The listing of the classes of a view, with the kind at which the walk was left.
 unfoldable pub recordLines : View → ℕ → List Class → Text

@@ -28,6 +28,7 @@ untoldClass c =
     record {
       name = untold (c .name);
       flags = c .flags;
+      layout = c .layout;
       generics = map untold (c .generics);
       bases = c .bases;
       methods = map untoldMethod (c .methods);

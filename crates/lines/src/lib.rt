@@ -16,7 +16,7 @@ ghost use Rattle.buffers.specs.Texts.{Text};
 ghost use Rattle.buffers.specs.Writes.{Wrote, Kept};
 ghost use Rattle.buffers.specs.Replies.{number, replySays};
 ghost use Rattle.escapes.specs.Escapes.{shown};
-ghost use Rattle.lines.specs.Lines.{line, nameRoom, numberLine, spentLine, refusedLine, answerLine};
+ghost use Rattle.lines.specs.Lines.{line, nameRoom, numberLine, spentLine, refusedLine, answerLine, isMissing, numberedLine};
 ghost use Rattle.lines.specs.Cursors.{cursor, first, done, nextNumber, Went};
 
 // What ends a line.
@@ -25,10 +25,13 @@ const LINE_END: u8 = b'\n';
 // The bytes of the longest name that is shown. For a longer one there stands `!`.
 const LONGEST: usize = 4096;
 
+// The refusal that says so of a number that may be missing.
+const NO_SUCH_ROW: u8 = 4;
+
 // Room for a key, any name that is not too long, and eight bytes. Written as a value the name may need more.
 pub const LINE_ROOM: usize = 4120;
 
-// What the next line is about.
+// What the next line is about. Packing and size come behind the flags in a listing, and last here, as in the numbers that C programs use.
 pub enum Place {
     Stop,
     Classes,
@@ -43,6 +46,8 @@ pub enum Place {
     ParamType,
     ParamName,
     Done,
+    Packing,
+    Size,
 }
 
 // Where the listing is: the class, the method and the item that the place is about, from 0.
@@ -152,7 +157,7 @@ pub fn end_missing(out: &mut [u8], start: usize) -> usize
 }
 
 // The line of a number by a call's reply, behind its key, and where it goes on.
-pub fn end_number(out: &mut [u8], at: usize, start: usize, reply: Reply, next: Cursor) -> Step
+fn end_reply(out: &mut [u8], at: usize, start: usize, reply: Reply, next: Cursor) -> Step
     ensures { λ r.
         ⌜ ((o : List ℕ) (key : Text) → Wrote o at key (now (out .entry)) start → Went (answerLine key (replySays reply)) next o at
         (now (out .exit)) r) ⌝ }
@@ -170,6 +175,40 @@ pub fn end_number(out: &mut [u8], at: usize, start: usize, reply: Reply, next: C
             at: push_nothing(out, at),
         },
     }
+}
+
+// Whether a reply says that there is no such number. Other refusals are those of the streams.
+fn is_missing(reply: Reply) -> bool
+    ensures { λ r. ⌜ r ≡ isMissing (replySays reply) ⌝ }
+{
+    match reply {
+        Reply::Is(_) => false,
+        Reply::No(why) => refusal_number(why) == NO_SUCH_ROW,
+    }
+}
+
+// The same where the number may be one that may be missing: where it is, its key stands alone.
+pub fn end_number(
+    out: &mut [u8],
+    at: usize,
+    start: usize,
+    reply: Reply,
+    optional: bool,
+    next: Cursor,
+) -> Step
+    ensures { λ r.
+        ⌜ ((o : List ℕ) (key : Text) → Wrote o at key (now (out .entry)) start → Went (numberedLine optional key (replySays reply)) next o at
+        (now (out .exit)) r) ⌝ }
+{
+    if optional {
+        if is_missing(reply) {
+            return Step {
+                next,
+                at: end_missing(out, start),
+            };
+        }
+    }
+    end_reply(out, at, start, reply, next)
 }
 
 // A refusal, which ends the listing.

@@ -23,17 +23,17 @@ ghost use Rattle.charges.specs.Within.{AllFit};
 // Words for the layout, and for the rows by key of every input that the program takes, and bytes of a piece of the listing; and both for
 // one whose tables have at most so many bytes, which costs fewer zeros. A piece that is shorter than the longest line, 12,298 bytes, could
 // stay empty, and the listing would never end.
-const WORDS: usize = 19_000;
+const WORDS: usize = 24_000;
 
 const PIECE: usize = 65_536;
 
-const FEW_WORDS: usize = 2_500;
+const FEW_WORDS: usize = 3_100;
 
 const FEW_PIECE: usize = 32_768;
 
 const FEW_BYTES: usize = 8_192;
 
-const LEAST_WORDS: usize = 800;
+const LEAST_WORDS: usize = 900;
 
 const LEAST_PIECE: usize = 12_800;
 

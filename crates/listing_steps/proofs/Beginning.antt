@@ -1,6 +1,6 @@
 -- From a line that has begun to a step of the listing. Assumes nothing.
 use mathlib.Core.Path.{_≡_, sym, _∙_, subst}
-use mathlib.Core.Bool.{false, cond}
+use mathlib.Core.Bool.{Bool, false, cond}
 use mathlib.Core.List.{List}
 use Prim.Native.Nat.{ℕ, _+_, _≤_}
 use native.Mathlib.Omega.{arith}
@@ -14,7 +14,7 @@ use Rattle.record.specs.Allowance.{nameWork, isOver}
 use Rattle.questions.specs.Questions.{numberCall, nameCall}
 use Rattle.questions.specs.declared.NumberQuestion.{NumberQuestion}
 use Rattle.questions.specs.declared.NameQuestion.{NameQuestion}
-use Rattle.lines.specs.Lines.{nameRoom, lineRoom, answerLine, nameLine, goesOn}
+use Rattle.lines.specs.Lines.{nameRoom, lineRoom, numberedLine, nameLine, goesOn}
 use Rattle.lines.specs.Ceiling.{listed}
 use Rattle.lines.specs.Cursors.{cursor, lineAt, nextAt, isOverAt, Went, Stepped}
 use Rattle.lines.specs.declared.Place.{Place}
@@ -50,14 +50,14 @@ module _ (c : Cursor) {l : Line} {o o′ o″ : List ℕ} {at : ℕ} {s : Step} 
   pub done-next : (v : View) → l ≡ Done → ((k m i : ℕ) → Stepped v (cursor place.Done k m i) o′ at o″ s) → Stepped v c o at o″ s
   done-next v e w = ended v (subst (Begun v c o at o′) e (begun v)) w
 
-  module _ {start : ℕ} {question : NumberQuestion} {next : Cursor} where
-    numbered : (v : View) → Begun v c o at o′ (Number start question next)
-        → ((o : List ℕ) (key : Text) → Wrote o at key o′ start → Went (answerLine key (numberAnswer (numberCall question) v)) next o at o″ s)
+  module _ {start : ℕ} {question : NumberQuestion} {optional : Bool} {next : Cursor} where
+    numbered : (v : View) → Begun v c o at o′ (Number start question optional next)
+        → ((o : List ℕ) (key : Text) → Wrote o at key o′ start → Went (numberedLine optional key (numberAnswer (numberCall question) v)) next o at o″ s)
         → Stepped v c o at o″ s
     numbered v (number key w h) f = number-steps h (f _ key w)
 
-    pub number-next : {v w : View} → v ≡ w → l ≡ Number start question next
-        → ((o : List ℕ) (key : Text) → Wrote o at key o′ start → Went (answerLine key (numberAnswer (numberCall question) v)) next o at o″ s)
+    pub number-next : {v w : View} → v ≡ w → l ≡ Number start question optional next
+        → ((o : List ℕ) (key : Text) → Wrote o at key o′ start → Went (numberedLine optional key (numberAnswer (numberCall question) v)) next o at o″ s)
         → Stepped w c o at o″ s
     number-next {v} same e f = at-view same c (numbered v (subst (Begun v c o at o′) e (begun v)) f)
 

@@ -17,7 +17,7 @@ use Rattle.lines.specs.Lines.{spentLine, missingLine, nameLine, goesOn}
 use Rattle.lines.specs.Ceiling.{comesFirst, beyond, listed}
 use Rattle.lines.specs.Cursors.{cursor, nextNumber, lineAt, nextAt, placeWork, isOverAt, countsAnew, ShowsName, Stepped}
 use Rattle.lines.specs.declared.Place.{Place}
-use Rattle.lines.specs.declared.Place.the-variants.{Stop, Classes, Class, Flags, Generic, Base, Method, MethodFlags, MethodGeneric, Returns, ParamType, ParamName, Done}
+use Rattle.lines.specs.declared.Place.the-variants.{Stop, Classes, Class, Flags, Generic, Base, Method, MethodFlags, MethodGeneric, Returns, ParamType, ParamName, Done, Packing, Size}
 use Rattle.lines.specs.declared.Cursor.{Cursor}
 use Rattle.lines.specs.declared.Step.{Step}
 use Rattle.lines.proofs.Place.{the-type}
@@ -27,16 +27,18 @@ use Rattle.listing_steps.specs.Filling.{isDone}
 
 -- All places but those of base types and return types; and but those of parameters too.
 abbrev pub later : List ℕ
-later = 0 ∷ 1 ∷ 2 ∷ 3 ∷ 4 ∷ 6 ∷ 7 ∷ 8 ∷ 10 ∷ 11 ∷ 12 ∷ []
+later = 0 ∷ 1 ∷ 2 ∷ 3 ∷ 4 ∷ 6 ∷ 7 ∷ 8 ∷ 10 ∷ 11 ∷ 12 ∷ 13 ∷ 14 ∷ []
 
 abbrev pub uncounted : List ℕ
-uncounted = 0 ∷ 1 ∷ 2 ∷ 3 ∷ 4 ∷ 6 ∷ 7 ∷ 8 ∷ 12 ∷ []
+uncounted = 0 ∷ 1 ∷ 2 ∷ 3 ∷ 4 ∷ 6 ∷ 7 ∷ 8 ∷ 12 ∷ 13 ∷ 14 ∷ []
 
 pub not-anew : (p : Place) (i : ℕ) → OneOf later (tagOf the-type p) → false ≡ countsAnew p i
 not-anew Stop i h = refl
 not-anew Classes i h = refl
 not-anew Class i h = refl
 not-anew Flags i h = refl
+not-anew Packing i h = refl
+not-anew Size i h = refl
 not-anew Generic i h = refl
 not-anew Base i h = absurd (miss later 5 tt h)
 not-anew Method i h = refl
@@ -54,6 +56,8 @@ module _ (v : View) where
   nothing-over Classes k m h = refl
   nothing-over Class k m h = refl
   nothing-over Flags k m h = refl
+  nothing-over Packing k m h = refl
+  nothing-over Size k m h = refl
   nothing-over Generic k m h = refl
   nothing-over Base k m h = absurd (miss uncounted 5 tt h)
   nothing-over Method k m h = refl
@@ -81,6 +85,8 @@ module _ (v : View) where
       go Classes h = refl
       go Class h = refl
       go Flags h = refl
+      go Packing h = refl
+      go Size h = refl
       go Generic h = refl
       go Base h = refl
       go Method h = refl
@@ -153,6 +159,8 @@ module _ (c : Cursor) {o o′ : List ℕ} {at end : ℕ} {next : Cursor} where
         go Classes e k = nothing (counts-at v c e)
         go Class e k = nothing (counts-at v c e)
         go Flags e k = nothing (counts-at v c e)
+        go Packing e k = nothing (counts-at v c e)
+        go Size e k = nothing (counts-at v c e)
         go Generic e k = nothing (counts-at v c e)
         go Base e k = absurd (miss later 5 tt k)
         go Method e k = nothing (counts-at v c e)

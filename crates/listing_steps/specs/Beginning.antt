@@ -1,5 +1,6 @@
 -- The line at a cursor, begun: its key is written, and what follows it is known; and of a name, what is beyond the ceiling.
 use mathlib.Core.Path.{_≡_}
+use mathlib.Core.Bool.{Bool}
 use mathlib.Core.List.{List}
 use Prim.Native.Nat.{ℕ, _≤_}
 use lib.ListN.{length}
@@ -21,8 +22,8 @@ use Rattle.listing_steps.specs.declared.Line.the-variants.{Stop, Number,
 
 pub data Begun (v : View) (c : Cursor) (o : List ℕ) (at : ℕ) (o′ : List ℕ) : Line → Type 0 where
   stop : c .place ≡ place.Stop → Kept o at o′ → Begun v c o at o′ Stop
-  number : {start : ℕ} {question : NumberQuestion} {next : Cursor} (key : Text) → Wrote o at key o′ start
-      → ShowsNumber v c key (numberAnswer (numberCall question) v) next → Begun v c o at o′ (Number start question next)
+  number : {start : ℕ} {question : NumberQuestion} {optional : Bool} {next : Cursor} (key : Text) → Wrote o at key o′ start
+      → ShowsNumber v c key optional (numberAnswer (numberCall question) v) next → Begun v c o at o′ (Number start question optional next)
   name : {start : ℕ} {question : NameQuestion} {more past : Cursor} (key : Text) → length key ≤ longestKey → Wrote o at key o′ start
       → ShowsName v c key (listed (nameCall question) v) more past → isOver (nameWork (nameCall question) v) ≡ isOverAt v c
       → Begun v c o at o′ (Name start question more past)

@@ -14,7 +14,7 @@ use Rattle.record.specs.View.{View, view}
 use Rattle.lines.specs.Lines.{lineRoom, refusedLine}
 use Rattle.lines.specs.Cursors.{done, lineAt, nextAt, isOverAt}
 use Rattle.lines.specs.declared.Place.{Place}
-use Rattle.lines.specs.declared.Place.the-variants.{Stop, Classes, Class, Flags, Generic, Base, Method, MethodFlags, MethodGeneric, Returns, ParamType, ParamName, Done}
+use Rattle.lines.specs.declared.Place.the-variants.{Stop, Classes, Class, Flags, Generic, Base, Method, MethodFlags, MethodGeneric, Returns, ParamType, ParamName, Done, Packing, Size}
 use Rattle.lines.specs.declared.Cursor.{Cursor}
 use Rattle.lines.specs.declared.Step.{Step}
 use Rattle.listing_steps.specs.declared.Reached.{Reached}
@@ -24,6 +24,8 @@ isDone Stop = false
 isDone Classes = false
 isDone Class = false
 isDone Flags = false
+isDone Packing = false
+isDone Size = false
 isDone Generic = false
 isDone Base = false
 isDone Method = false

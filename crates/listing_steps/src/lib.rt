@@ -43,12 +43,13 @@ pub const MOST_STEPS: u32 = 65_536;
 // The bytes of the longest line. A line for which the space is too short would be made again for each step that is left.
 const LONGEST_LINE: usize = 12_298;
 
-// A line that has begun, behind its key: the question whose answer it shows, and where it goes on.
+// A line that has begun, behind its key: the question whose answer it shows, whether that number may be missing, and where it goes on.
 pub enum Line {
     Stop,
     Number {
         start: usize,
         question: NumberQuestion,
+        optional: bool,
         next: Cursor,
     },
     Name {
@@ -133,6 +134,7 @@ fn begin_line(out: &mut [u8], at: usize, c: Cursor) -> Line
         Place::Classes => Line::Number {
             start: push(out, at, b"classes="),
             question: NumberQuestion::ClassCount,
+            optional: false,
             next: cursor_at(Place::Class, ClassNumber(0), 0, 0),
         },
         Place::Class => Line::Name {
@@ -144,6 +146,19 @@ fn begin_line(out: &mut [u8], at: usize, c: Cursor) -> Line
         Place::Flags => Line::Number {
             start: push(out, at, b"flags="),
             question: NumberQuestion::ClassFlags(class),
+            optional: false,
+            next: cursor_at(Place::Packing, class, 0, 0),
+        },
+        Place::Packing => Line::Number {
+            start: push(out, at, b"packing="),
+            question: NumberQuestion::ClassPacking(class),
+            optional: true,
+            next: cursor_at(Place::Size, class, 0, 0),
+        },
+        Place::Size => Line::Number {
+            start: push(out, at, b"size="),
+            question: NumberQuestion::ClassSize(class),
+            optional: true,
             next: cursor_at(Place::Generic, class, 0, 0),
         },
         Place::Generic => Line::Name {
@@ -167,6 +182,7 @@ fn begin_line(out: &mut [u8], at: usize, c: Cursor) -> Line
         Place::MethodFlags => Line::Number {
             start: push(out, at, b"mflags="),
             question: NumberQuestion::MethodFlags(class, m),
+            optional: false,
             next: cursor_at(Place::MethodGeneric, class, m, 0),
         },
         Place::MethodGeneric => Line::Name {
@@ -302,6 +318,7 @@ fn next_line(
         Line::Number {
             start,
             question,
+            optional,
             next,
         } => number_line(
             out,
@@ -312,6 +329,7 @@ fn next_line(
             blob,
             layout,
             question,
+            optional,
             next,
             known,
         ),

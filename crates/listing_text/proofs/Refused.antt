@@ -20,10 +20,10 @@ use Rattle.header.specs.declared.Options.{Options}
 use Rattle.header.specs.declared.Opened.the-variants.{Refused, Ready}
 use Rattle.tables.specs.Extents.{walkBy}
 use Rattle.record.specs.View.{View, view, viewOf}
-use Rattle.record.specs.Answers.{walkAnswer, NumberCall, ClassCount, ClassFlags, MethodFlags, numberAnswer, NameCall, ClassName, GenericName, BaseName, MethodName, MethodGenericName, ReturnType, ParameterType, ParameterName, nameAnswer}
+use Rattle.record.specs.Answers.{walkAnswer, NumberCall, ClassCount, ClassFlags, ClassPacking, ClassSize, MethodFlags, numberAnswer, NameCall, ClassName, GenericName, BaseName, MethodName, MethodGenericName, ReturnType, ParameterType, ParameterName, nameAnswer}
 use Rattle.record.proofs.Laws.{opening-first}
 use Rattle.record.specs.Allowance.{baseWork, methodWork, nameWork, countOf, isOver}
-use Rattle.lines.specs.Lines.{answerLine, missingLine, nameLine, goesOn, refusedLine}
+use Rattle.lines.specs.Lines.{answerLine, orKeyLine, missingLine, nameLine, goesOn, refusedLine}
 use Rattle.lines.specs.Cursors.{cursor, done, nextNumber, lineAt, nextAt, Went, Stepped}
 use Rattle.lines.specs.declared.Place.{Place}
 use Rattle.lines.specs.declared.Place.the-variants as at
@@ -50,7 +50,7 @@ few o t e = by-tests (ltb (length t) 24) (ltb (length t) (countsEnd t)) (overLim
 
 -- The tags of all places but the first and the last.
 abbrev others : List ℕ
-others = 1 ∷ 2 ∷ 3 ∷ 4 ∷ 5 ∷ 6 ∷ 7 ∷ 8 ∷ 9 ∷ 10 ∷ 11 ∷ []
+others = 1 ∷ 2 ∷ 3 ∷ 4 ∷ 5 ∷ 6 ∷ 7 ∷ 8 ∷ 9 ∷ 10 ∷ 11 ∷ 13 ∷ 14 ∷ []
 
 -- No line, and the listing is done.
 abbrev nothing : Piece
@@ -64,6 +64,11 @@ module _ (o : Options) (t strings blob : List ℕ) {why : Refusal} (e : opened o
   no-number : (call : NumberCall) (key : Text) → answerLine key (numberAnswer call v) ≡ []
   unfolding viewOf
   no-number call key = rw (opening-first v why e .0 call)
+
+  -- Nor has one that may be missing: the stream is refused, the number is not missing.
+  no-key : (call : NumberCall) (key : Text) → orKeyLine key (numberAnswer call v) ≡ []
+  unfolding viewOf
+  no-key call key = let low = few o t e in rw (opening-first v why e .0 call, ne-eqb (number why) 4 (λ z. omega arith))
 
   no-name : (call : NameCall) (key : Text) → nameLine key (nameAnswer call v) ≡ []
   unfolding viewOf missingLine
@@ -136,9 +141,17 @@ module _ (o : Options) (t strings blob : List ℕ) {why : Refusal} (e : opened o
     unfolding lineAt nextAt
     ends-generic c m i = skips _ _ refl (no-name (GenericName c i) _) (passes (GenericName c i) _ _) (ends-base c 0 0)
 
-    ends-flags : (c m i : ℕ) → Ends 5 (cursor at.Flags c m i)
+    ends-size : (c m i : ℕ) → Ends 5 (cursor at.Size c m i)
     unfolding lineAt nextAt
-    ends-flags c m i = skips _ _ refl (no-number (ClassFlags c) _) refl (ends-generic c 0 0)
+    ends-size c m i = skips _ _ refl (no-key (ClassSize c) _) refl (ends-generic c 0 0)
+
+    ends-packing : (c m i : ℕ) → Ends 6 (cursor at.Packing c m i)
+    unfolding lineAt nextAt
+    ends-packing c m i = skips _ _ refl (no-key (ClassPacking c) _) refl (ends-size c 0 0)
+
+    ends-flags : (c m i : ℕ) → Ends 7 (cursor at.Flags c m i)
+    unfolding lineAt nextAt
+    ends-flags c m i = skips _ _ refl (no-number (ClassFlags c) _) refl (ends-packing c 0 0)
 
     ends-param-type : (c m i : ℕ) → Ends 3 (cursor at.ParamType c m i)
     unfolding lineAt nextAt
@@ -160,16 +173,18 @@ module _ (o : Options) (t strings blob : List ℕ) {why : Refusal} (e : opened o
     unfolding lineAt nextAt
     ends-method-flags c m i = skips _ _ refl (no-number (MethodFlags c m) _) refl (ends-method-generic c m 0)
 
-    -- No place but the first and the last is more than five steps away.
-    elsewhere : (p : Place) (c m i : ℕ) → OneOf others (tagOf the-type p) → Ends 5 (cursor p c m i)
+    -- No place but the first and the last is more than seven steps away.
+    elsewhere : (p : Place) (c m i : ℕ) → OneOf others (tagOf the-type p) → Ends 7 (cursor p c m i)
     elsewhere at.Stop c m i h = absurd (miss others 0 tt h)
     elsewhere at.Classes c m i h = λ n k. ends-classes c m i n (omega arith)
     elsewhere at.Class c m i h = λ n k. ends-class c m i n (omega arith)
     elsewhere at.Flags c m i h = ends-flags c m i
+    elsewhere at.Packing c m i h = λ n k. ends-packing c m i n (omega arith)
+    elsewhere at.Size c m i h = λ n k. ends-size c m i n (omega arith)
     elsewhere at.Generic c m i h = λ n k. ends-generic c m i n (omega arith)
     elsewhere at.Base c m i h = λ n k. ends-base c m i n (omega arith)
     elsewhere at.Method c m i h = λ n k. ends-method c m i n (omega arith)
-    elsewhere at.MethodFlags c m i h = ends-method-flags c m i
+    elsewhere at.MethodFlags c m i h = λ n k. ends-method-flags c m i n (omega arith)
     elsewhere at.MethodGeneric c m i h = λ n k. ends-method-generic c m i n (omega arith)
     elsewhere at.Returns c m i h = λ n k. ends-returns c m i n (omega arith)
     elsewhere at.ParamType c m i h = λ n k. ends-param-type c m i n (omega arith)

@@ -22,18 +22,19 @@ use Rattle.header.specs.declared.Header.{Header}
 use Rattle.header.specs.declared.Opened.{Opened}
 use Rattle.header.specs.declared.Opened.the-variants.{Refused, Ready}
 use Rattle.layouts.specs.declared.IndexSizes.{IndexSizes}
-use Rattle.layouts.specs.Kinds.{typeDef, methodDef}
+use Rattle.layouts.specs.Kinds.{typeDef, methodDef, classLayout}
 use Rattle.layouts.specs.Columns.{Two, columnsOf, tables, widthIn}
-use Rattle.tables.specs.Extents.{passes, stopFrom, stopKind, walked, answered, walkBy, keptRows}
-use Rattle.record.specs.Columns.{column}
-use Rattle.record.specs.View.{View, view, viewOf, place, otherRow, isSide}
+use Rattle.tables.specs.Extents.{passes, stopFrom, stopKind, walked, answered, walkBy, sizesIn, keptRows}
+use Rattle.record.specs.Columns.{column, layoutParent}
+use Rattle.record.specs.Rows.{rowBytes, ofKey}
+use Rattle.record.specs.View.{ClassLayout, layoutIn, View, view, viewOf, place, otherRow, isSide, sideRow, sideRows}
 use Rattle.record.specs.Names.{classes, sizesOf, numberIn}
 use Rattle.record.specs.Methods.{leftAfter}
 use Rattle.record.specs.Record.{Method, Class, method, class, classRecord}
-use Rattle.record.specs.Answers.{_⟫_, ready, orNoRow, item, theClasses, theClass, theMethod, classCount, classFlags, className, genericName, methodName, methodFlags, methodGenericName, BaseName, ReturnType, ParameterType, ParameterName}
+use Rattle.record.specs.Answers.{_⟫_, ready, orNoRow, item, theClasses, theClass, theMethod, theLayout, classCount, classFlags, classPacking, classSize, className, genericName, methodName, methodFlags, methodGenericName, BaseName, ReturnType, ParameterType, ParameterName}
 use Rattle.escapes.specs.Escapes.{longest, shown}
 use Rattle.escapes.proofs.Apart.{numbers-stand, three-at-most}
-use Rattle.lines.specs.Lines.{line, numberLine, answerLine, missingLine, nameLine}
+use Rattle.lines.specs.Lines.{line, numberLine, answerLine, orKeyLine, missingLine, nameLine}
 use Rattle.lines.specs.Ceiling.{listed}
 use Rattle.lines.specs.Cursors.{stopLine, placeLine, lineAt}
 use Rattle.lines.specs.declared.Place.{Place}
@@ -139,6 +140,39 @@ answer-fits : (key : Text) → length key ≤ 9 → (a : Answer ℕ) → Each Na
 answer-fits key h (refused w) k = omega arith
 answer-fits key h (value n) k = number-fits key h n k
 
+or-key-fits : (key : Text) → length key ≤ 9 → (a : Answer ℕ) → Each Narrow a → Fits (orKeyLine key a)
+or-key-fits key h (refused w) k = pick Fits (eqb (w .number) (number NoSuchRow)) (λ _. line-fits key h [] (omega arith)) (λ _. omega arith)
+or-key-fits key h (value n) k = number-fits key h n k
+
+-- ---- What each row of a key says, and so the first of them
+
+abbrev All : {B : Type 0} → (B → Type 0) → List B → Type 0
+All P [] = Unit {0}
+All P (x ∷ l) = P x × All P l
+
+abbrev OrNone : {B : Type 0} → (B → Type 0) → Option B → Type 0
+OrNone P none = Unit {0}
+OrNone P (some b) = P b
+
+module _ {B : Type 0} (P : B → Type 0) where
+  all-end : (l : List B) (x : B) → All P l → P x → All P (l ++ x ∷ [])
+  all-end [] x h p = (p, tt)
+  all-end (y ∷ l) x h p = (h .0, all-end l x (h .1) p)
+
+  all-of-key : (key : List ℕ → ℕ) (say : List ℕ → B) (row : ℕ → List ℕ) (k : ℕ) → ((i : ℕ) → P (say (row i))) → (n : ℕ) → All P (ofKey key say row n k)
+  all-of-key key say row k h zero = tt
+  all-of-key key say row k h (suc n) =
+      let before = all-of-key key say row k h n in
+      pick (All P) (eqb (key (row n)) k) (λ _. all-end (ofKey key say row n k) (say (row n)) before (h n)) (λ _. before)
+
+  first-of : (l : List B) → All P l → OrNone P (getElem? l 0)
+  first-of [] h = tt
+  first-of (x ∷ l) h = h .0
+
+  or-no-row : (o : Option B) → OrNone P o → Each P (orNoRow o)
+  or-no-row none h = tt
+  or-no-row (some b) h = h
+
 -- ---- Parts of a list of bytes
 
 bytes-take : (n : ℕ) (s : List ℕ) → Bytes s → Bytes (take n s)
@@ -155,8 +189,12 @@ bytes-part s start n h = bytes-take n (drop start s) (λ i. omega (arith, getD-d
 abbrev NarrowMethod : Method → Type 0
 NarrowMethod m = Narrow (m .flags)
 
+abbrev NarrowLayout : ClassLayout → Type 0
+NarrowLayout l = Narrow (l .packing) × Narrow (l .size)
+
 record NarrowClass (k : Class) : Type 0 where
   flags : Narrow (k .flags)
+  layout : OrNone NarrowLayout (k .layout)
   each : (i : ℕ) (m : Method) → getElem? (k .methods) i ≡ some m → NarrowMethod m
 
 module _ (t strings heap : List ℕ) (bytes : Bytes t) where
@@ -166,14 +204,29 @@ module _ (t strings heap : List ℕ) (bytes : Bytes t) where
   abbrev NarrowIn : (k j : ℕ) → Option (List ℕ) → Type 0
   NarrowIn k j r = Narrow (numberIn v (column k j) r)
 
-  column-narrow : (k j i : ℕ) → widthIn (sizesOf v) (getD (columnsOf k) j Two) ≤ 4 → NarrowIn k j (v .row k i)
-  unfolding viewOf otherRow column
-  column-narrow k j i h =
+  row-narrow : (k j i : ℕ) → widthIn (sizesOf v) (getD (columnsOf k) j Two) ≤ 4 → Narrow (column k j (sizesOf v) (rowBytes (place base (opened base t) t k) t i))
+  unfolding viewOf column
+  row-narrow k j i h =
       let e = place base (opened base t) t k in
       let start = e .start + i * e .size in
+      le-fits (part t start (e .size)) _ _ _ refl (bytes-part t start (e .size) bytes) h
+
+  column-narrow : (k j i : ℕ) → widthIn (sizesOf v) (getD (columnsOf k) j Two) ≤ 4 → NarrowIn k j (v .row k i)
+  unfolding viewOf otherRow
+  column-narrow k j i h =
       pick (NarrowIn k j) (isSide k) (λ _. omega arith)
       (λ _. pick (NarrowIn k j) (ltb i (keptRows base (opened base t) (length t) k))
-      (λ _. le-fits (part t start (e .size)) _ _ _ refl (bytes-part t start (e .size) bytes) h) (λ _. omega arith))
+      (λ _. row-narrow k j i h) (λ _. omega arith))
+
+  layout-narrow : (c : ℕ) → OrNone NarrowLayout (v .layout c)
+  unfolding viewOf tables
+  layout-narrow c =
+      let h = opened base t in
+      let w = sizesIn base h in
+      let rows = sideRow base h t classLayout in
+      let n = sideRows base h t classLayout in
+      first-of NarrowLayout (ofKey (layoutParent w) (layoutIn w) rows n c)
+      (all-of-key NarrowLayout (layoutParent w) (layoutIn w) rows c (λ i. (row-narrow classLayout 0 i (omega arith), row-narrow classLayout 1 i (omega arith))) n)
 
   method-narrow : (c m : ℕ) → NarrowMethod (method v c m)
   unfolding method tables
@@ -183,6 +236,7 @@ module _ (t strings heap : List ℕ) (bytes : Bytes t) where
   unfolding class tables
   class-narrow c = record {
     flags = column-narrow typeDef 0 (c + 1) (omega arith);
+    layout = layout-narrow (c + 2);
     each = tabulated NarrowMethod (method v c) (leftAfter v c) (leftAfter v (c + 1) - leftAfter v c) (method-narrow c);
   }
 
@@ -205,6 +259,18 @@ module _ (t strings heap : List ℕ) (bytes : Bytes t) where
   unfolding classFlags
   flags-narrow c = each-then NarrowClass Narrow (theClass v c) (λ k. value (k .flags)) (a-class c) (λ k n. n .flags)
 
+  the-layout : (c : ℕ) → Each NarrowLayout (theLayout v c)
+  the-layout c =
+      each-then NarrowClass NarrowLayout (theClass v c) (λ k. orNoRow (k .layout)) (a-class c) (λ k n. or-no-row NarrowLayout (k .layout) (n .layout))
+
+  packing-narrow : (c : ℕ) → Each Narrow (classPacking v c)
+  unfolding classPacking
+  packing-narrow c = each-then NarrowLayout Narrow (theLayout v c) (λ l. value (l .packing)) (the-layout c) (λ l n. n .0)
+
+  size-narrow : (c : ℕ) → Each Narrow (classSize v c)
+  unfolding classSize
+  size-narrow c = each-then NarrowLayout Narrow (theLayout v c) (λ l. value (l .size)) (the-layout c) (λ l n. n .1)
+
   method-flags-narrow : (c m : ℕ) → Each Narrow (methodFlags v c m)
   unfolding methodFlags
   method-flags-narrow c m =
@@ -218,6 +284,8 @@ module _ (t strings heap : List ℕ) (bytes : Bytes t) where
   place-fits at.Classes c m i = answer-fits (q "classes=") (omega arith) (classCount v) count-narrow
   place-fits at.Class c m i = name-fits (q "class=") (omega arith) (className v c)
   place-fits at.Flags c m i = answer-fits (q "flags=") (omega arith) (classFlags v c) (flags-narrow c)
+  place-fits at.Packing c m i = or-key-fits (q "packing=") (omega arith) (classPacking v c) (packing-narrow c)
+  place-fits at.Size c m i = or-key-fits (q "size=") (omega arith) (classSize v c) (size-narrow c)
   place-fits at.Generic c m i = name-fits (q "generic=") (omega arith) (genericName v c i)
   place-fits at.Base c m i = name-fits (q "base=") (omega arith) (listed (BaseName c i) v)
   place-fits at.Method c m i = name-fits (q "method=") (omega arith) (methodName v c m)

@@ -22,7 +22,7 @@ use Rattle.lines.specs.Lines.{refusedLine}
 use Rattle.lines.specs.Listing.{orRefused, listing, listingOf}
 use Rattle.lines.specs.Cursors.{first, done, lineAt, nextAt}
 use Rattle.lines.specs.declared.Place.{Place}
-use Rattle.lines.specs.declared.Place.the-variants.{Stop, Classes, Class, Flags, Generic, Base, Method, MethodFlags, MethodGeneric, Returns, ParamType, ParamName, Done}
+use Rattle.lines.specs.declared.Place.the-variants.{Stop, Classes, Class, Flags, Generic, Base, Method, MethodFlags, MethodGeneric, Returns, ParamType, ParamName, Done, Packing, Size}
 use Rattle.lines.specs.declared.Cursor.{Cursor}
 use Rattle.listing_steps.specs.Filling.{isDone, Piece, pieceFrom, pieceOf, mostSteps, answerPiece, inputPiece}
 use Rattle.listing_steps.proofs.Filling.{is-done, is-full, goes-on, piece-fits}
@@ -38,6 +38,8 @@ is-end Stop e = let z : _≡_ {A = Bool} false true = e in cc
 is-end Classes e = let z : _≡_ {A = Bool} false true = e in cc
 is-end Class e = let z : _≡_ {A = Bool} false true = e in cc
 is-end Flags e = let z : _≡_ {A = Bool} false true = e in cc
+is-end Packing e = let z : _≡_ {A = Bool} false true = e in cc
+is-end Size e = let z : _≡_ {A = Bool} false true = e in cc
 is-end Generic e = let z : _≡_ {A = Bool} false true = e in cc
 is-end Base e = let z : _≡_ {A = Bool} false true = e in cc
 is-end Method e = let z : _≡_ {A = Bool} false true = e in cc

@@ -15,12 +15,13 @@ use Rattle.heaps.specs.Lookups.{Name, found, missing, textOf, nameOrWhy}
 use Rattle.header.specs.declared.Opened.{Opened}
 use Rattle.header.specs.declared.Opened.the-variants.{Refused, Ready}
 use Rattle.tables.specs.Extents.{walkBy}
-use Rattle.record.specs.View.{View}
+use Rattle.record.specs.Missing.{over}
+use Rattle.record.specs.View.{ClassLayout, View}
 use Rattle.record.specs.Record.{Parameter, Method, Class, classRecord}
-use Rattle.record.specs.Answers.{walkAnswer, theClasses, theClass, theMethod, classCount, classFlags, className, genericName, baseName, methodName, methodFlags, methodGenericName, returnType, parameterType, parameterName}
+use Rattle.record.specs.Answers.{_⟫_, orNoRow, walkAnswer, theClasses, theClass, theMethod, classCount, classFlags, classPacking, classSize, className, genericName, baseName, methodName, methodFlags, methodGenericName, returnType, parameterType, parameterName}
 use Rattle.record.specs.Answers.{BaseName, ReturnType, ParameterType, ParameterName}
 use Rattle.record.specs.Allowance.{baseWork, methodWork, isOver}
-use Rattle.lines.specs.Lines.{valueLine, spentLine, missingLine, refusedLine, answerLine, nameLine, goesOn}
+use Rattle.lines.specs.Lines.{valueLine, spentLine, missingLine, refusedLine, numberOrKey, answerLine, orKeyLine, nameLine, goesOn}
 use Rattle.lines.specs.Listing.{each, eachFrom, parameterLines, signatureLines, methodLines, baseLines, classLines, recordLines, listing}
 use Rattle.lines.specs.Cursors.{cursor, first, done, nextNumber, stopLine, afterStop, lineAt, nextAt, Steps, here, onward}
 use Rattle.lines.specs.declared.Place.the-variants.{Class as AtClass, Generic, Base, Method as AtMethod, MethodGeneric, Returns, ParamType}
@@ -173,7 +174,7 @@ abbrev methodSteps : ℕ
 methodSteps = 3 * most + 5
 
 abbrev classSteps : ℕ
-classSteps = (methodSteps + 2) * most + 5
+classSteps = (methodSteps + 2) * most + 7
 
 abbrev pub listingSteps : ℕ
 listingSteps = classSteps * most + 3
@@ -255,6 +256,11 @@ module _ (v : View) (c m : ℕ) (k : Method) (is : theMethod v c m ≡ value k) 
         (single (untold generic-past (q "mgeneric=")) (leaves generic-past _ _)))
         (signature-steps n (isOver (methodWork v c m)) refl))))
 
+-- A number that may be missing, by its answer and by the record.
+or-key-shown : (key : Text) (f : ClassLayout → ℕ) (o : Option ClassLayout) → orKeyLine key (orNoRow o ⟫ (λ l. value (f l))) ≡ numberOrKey key (over f o)
+or-key-shown key f none = refl
+or-key-shown key f (some l) = refl
+
 -- A class's lines.
 module _ (v : View) (c : ℕ) (k : Class) (is : theClass v c ≡ value k) where
   method-at : (m : ℕ) {x : Method} → getElem? (k .methods) m ≡ some x → theMethod v c m ≡ value x
@@ -271,6 +277,18 @@ module _ (v : View) (c : ℕ) (k : Class) (is : theClass v c ≡ value k) where
   class-flags : classFlags v c ≡ value (k .flags)
   unfolding classFlags
   class-flags = rw is
+
+  packing-shown : orKeyLine (q "packing=") (classPacking v c) ≡ numberOrKey (q "packing=") (over (λ l. l .packing) (k .layout))
+  unfolding classPacking
+  packing-shown =
+      ap (λ (a : Answer Class). orKeyLine (q "packing=") (a ⟫ (λ x. orNoRow (x .layout)) ⟫ (λ l. value (l .packing)))) is
+      ∙ or-key-shown (q "packing=") (λ l. l .packing) (k .layout)
+
+  size-shown : orKeyLine (q "size=") (classSize v c) ≡ numberOrKey (q "size=") (over (λ l. l .size) (k .layout))
+  unfolding classSize
+  size-shown =
+      ap (λ (a : Answer Class). orKeyLine (q "size=") (a ⟫ (λ x. orNoRow (x .layout)) ⟫ (λ l. value (l .size)))) is
+      ∙ or-key-shown (q "size=") (λ l. l .size) (k .layout)
 
   class-generic : (i : ℕ) {n : Name} → getElem? (k .generics) i ≡ some n → genericName v c i ≡ nameOrWhy n
   unfolding genericName
@@ -327,11 +345,13 @@ module _ (v : View) (c : ℕ) (k : Class) (is : theClass v c ≡ value k) where
         fewer (omega (arith, few .generics, few .methods))
         (after (told (shown-name (k .name)) class-name (q "class=")) (goes (shown-name (k .name)) class-name _ _)
         (after (ap (answerLine (q "flags=")) class-flags) refl
+        (after packing-shown refl
+        (after size-shown refl
         (then (items (λ n. valueLine (q "generic=") (textOf n)) (cursor Generic c 0) (k .generics) class-generic-step
         (single (untold class-generic-past (q "generic=")) (leaves class-generic-past _ _)))
         (then (base-steps (isOver (baseWork v c)) refl)
         (numbered (methodLines v c) (λ (m : ℕ). cursor AtMethod c m 0) (k .methods) method-turn
-        (single (untold method-past (q "method=")) (leaves method-past _ _ ∙ ap (λ (x : ℕ). cursor AtClass x 0 0) n)))))))
+        (single (untold method-past (q "method=")) (leaves method-past _ _ ∙ ap (λ (x : ℕ). cursor AtClass x 0 0) n)))))))))
 
 -- The whole listing, by what opening the streams found.
 module _ (v : View) (few : FewIn v) where

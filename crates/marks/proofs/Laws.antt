@@ -100,6 +100,7 @@ module _ {t l : List ℕ} (laid : Laid t l) where
             (λ j h p. omega (arith, kept-start j, laid .behind j h (omega (arith, kept-length j))))
             (subst (Sorted _ _) (kept-memory columns.byOwner (omega arith)) (laid .generics))
             (subst (Sorted _ _) (kept-memory columns.byClass (omega arith)) (laid .interfaces))
+            (subst (Sorted _ _) (kept-memory columns.byParent (omega arith)) (laid .layouts))
             (subst (Nested _ _ _) (kept-memory columns.byNested (omega arith)) (laid .nests));
         options = same-options l′ laid (λ i h. kept i (λ e. omega arith));
       }

@@ -56,6 +56,7 @@ module _ (o : Options) (t : List ℕ) {l : List ℕ} (u : Unmarked (layoutOf o (
         behind = λ j h p. absurd (omega (arith, no-words j h));
         generics = subst (Sorted _ _) (sym (held-none l columns.byOwner (no-words columns.byOwner (omega arith)))) (sorted-none _ _);
         interfaces = subst (Sorted _ _) (sym (held-none l columns.byClass (no-words columns.byClass (omega arith)))) (sorted-none _ _);
+        layouts = subst (Sorted _ _) (sym (held-none l columns.byParent (no-words columns.byParent (omega arith)))) (sorted-none _ _);
         nests = subst (Nested _ _ _) (sym (held-none l columns.byNested (no-words columns.byNested (omega arith)))) (nested-none _ _ _);
       }
 

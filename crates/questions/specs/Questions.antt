@@ -1,5 +1,5 @@
 -- What a question of the code asks, as a call of the record (record/Answers.antt).
-use Rattle.record.specs.Answers.{NumberCall, ClassCount, ClassFlags, GenericCount, BaseCount, MethodCount, MethodFlags, MethodGenericCount, ParameterCount}
+use Rattle.record.specs.Answers.{NumberCall, ClassCount, ClassFlags, GenericCount, BaseCount, MethodCount, MethodFlags, MethodGenericCount, ParameterCount, ClassPacking, ClassSize}
 use Rattle.record.specs.Answers.{NameCall, ClassName, GenericName, BaseName, MethodName, MethodGenericName, ReturnType, ParameterType, ParameterName}
 use Rattle.questions.specs.declared.NumberQuestion.{NumberQuestion}
 use Rattle.questions.specs.declared.NumberQuestion.the-variants as number
@@ -15,6 +15,8 @@ numberCall (number.MethodCount c) = MethodCount (c .0)
 numberCall (number.MethodFlags c m) = MethodFlags (c .0) m
 numberCall (number.MethodGenericCount c m) = MethodGenericCount (c .0) m
 numberCall (number.ParamCount c m) = ParameterCount (c .0) m
+numberCall (number.ClassPacking c) = ClassPacking (c .0)
+numberCall (number.ClassSize c) = ClassSize (c .0)
 
 abbrev pub nameCall : NameQuestion → NameCall
 nameCall (name.ClassName c) = ClassName (c .0)

@@ -11,6 +11,8 @@ pub enum NumberQuestion {
     MethodFlags(ClassNumber, u32),
     MethodGenericCount(ClassNumber, u32),
     ParamCount(ClassNumber, u32),
+    ClassPacking(ClassNumber),
+    ClassSize(ClassNumber),
 }
 
 // The calls for a name.

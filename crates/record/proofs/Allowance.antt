@@ -19,7 +19,7 @@ use Rattle.record.specs.View.{View}
 use Rattle.record.specs.Names.{baseSteps}
 use Rattle.record.specs.Methods.{leftAfter, stepsIn}
 use Rattle.record.specs.Answers.{_⟫_, item, theClass, theMethod, Numbered, baseCount, parameterCount, baseName, returnType, parameterType, parameterName}
-use Rattle.record.specs.Answers.{NumberCall, ClassCount, ClassFlags, GenericCount, BaseCount, MethodCount, MethodFlags, MethodGenericCount, ParameterCount, numberAnswer}
+use Rattle.record.specs.Answers.{NumberCall, ClassCount, ClassFlags, ClassPacking, ClassSize, GenericCount, BaseCount, MethodCount, MethodFlags, MethodGenericCount, ParameterCount, numberAnswer}
 use Rattle.record.specs.Answers.{NameCall, ClassName, GenericName, BaseName, MethodName, MethodGenericName, ReturnType, ParameterType, ParameterName, nameAnswer}
 use Rattle.record.specs.Allowance.{baseWork, methodWork, numberWork, nameWork, countOf, isPaid, cost, charge, Exactly, SpentExactly, RaisingKeeps}
 use Rattle.record.specs.Allowance.{Charged, numberCharged, nameCharged, NumberedCharged, NamedCharged}
@@ -82,6 +82,8 @@ module _ (v : View) {why : Refusal} (e : v .header .answer ≡ opened.Refused wh
   free-number : (call : NumberCall) → countOf (numberWork call v) ≡ 0
   free-number ClassCount = refl
   free-number (ClassFlags c) = refl
+  free-number (ClassPacking c) = refl
+  free-number (ClassSize c) = refl
   free-number (GenericCount c) = refl
   free-number (BaseCount c) = free-bases c
   free-number (MethodCount c) = refl
@@ -150,6 +152,8 @@ module _ (v : View) (w : Refused) where
   unfolding baseCount parameterCount
   number-refused ClassCount e = absurd (no-value e)
   number-refused (ClassFlags c) e = absurd (no-value e)
+  number-refused (ClassPacking c) e = absurd (no-value e)
+  number-refused (ClassSize c) e = absurd (no-value e)
   number-refused (GenericCount c) e = absurd (no-value e)
   number-refused (BaseCount c) e = of-bases c (λ k. value (length (k .bases))) e
   number-refused (MethodCount c) e = absurd (no-value e)

@@ -22,8 +22,9 @@ use Rattle.record.specs.Names.{classes, classFullName, classNamed, refFu
 use Rattle.record.specs.Methods.{takes, leftOver, leftAfter, tries, signature, signatureBlob, reading, readBy, readSteps, endBefore, reads, readersAmong, readersFrom, signatureIn, signatureOf, stepsIn, methodSteps, parameterName}
 use Rattle.record.specs.Record.{method, class, classRecord}
 use Rattle.buffers.specs.Replies.{nameReply, nameBuffer}
+use Rattle.record.specs.Answers.{classPacking, classSize}
 use Rattle.record.specs.Modes.{listOf}
-use Rattle.record.specs.Cases.{sameℤ, is, sameAnswer, nowhere, unsigned, signed, rendered, all, cases, TwelveCases, moreCases, MoreCases, Limits, Buffers, wholeTables, wholeStrings, WholeCase, threeTables, threeStrings, threeBlob, threeView, ThreeClasses, richTables, richStrings, richBlob, RichCase, cutStrings, cutTypes, interfacesEnding, CutTables, nesting, nestingStrings, NestedNames, unnamedBase, unnamedBlob, StepCases}
+use Rattle.record.specs.Cases.{sameℤ, is, sameAnswer, nowhere, unsigned, signed, rendered, all, cases, TwelveCases, moreCases, MoreCases, Limits, Buffers, wholeTables, wholeStrings, WholeCase, threeTables, threeStrings, threeBlob, threeView, ThreeClasses, richTables, richStrings, richBlob, RichCase, cutStrings, cutTypes, interfacesEnding, CutTables, layoutTables, LayoutCases, nesting, nestingStrings, NestedNames, unnamedBase, unnamedBlob, StepCases}
 
 pub twelve : TwelveCases
 unfolding cases all rendered signed unsigned nowhere is sameℤ sameAnswer same packed bits7 bits14 bits29 uint unrotated sint times sep digits decimal signedText dim dims look names simple typeFullName counted methodStart arguments shown parameters around classType generic shape array instance fnPtr modified form within type
@@ -42,8 +43,8 @@ unfolding nameReply nameBuffer
 buffers = record { fits = (refl, refl); lacks = (refl, refl); empty = (refl, refl) }
 
 pub whole : WholeCase
-unfolding wholeTables wholeStrings leAt bitAt onesBelow rowCount overLimit opened tables reaches indexSizes indexSize heapSize hasCustomAttribute sumOf rowSize startOf isTable passes stopFrom stopKind wholeRows ifReached walked tabulate before stringAt bytesAt blobAt name string blob column walkBy extentBy onlyEntire keptBy cut fullName nameOf ownNamespace otherRow viewOf classes classFullName classNamed refFullName specBlob typeIn typeNameIn baseIndices baseTypes takes leftOver leftAfter tries signature signatureBlob reading readBy endBefore reads readersAmong readersFrom signatureIn signatureOf parameterName method class classRecord packed bits7 bits14 bits29 uint unrotated sint times sep digits decimal signedText dim dims look names simple typeFullName counted methodStart arguments shown parameters around classType generic shape array instance fnPtr modified form within type
-whole = record { stop = refl; classes = refl }
+unfolding classPacking classSize wholeTables wholeStrings leAt bitAt onesBelow rowCount overLimit opened tables reaches indexSizes indexSize heapSize hasCustomAttribute sumOf rowSize startOf isTable passes stopFrom stopKind wholeRows ifReached walked tabulate before stringAt bytesAt blobAt name string blob column walkBy extentBy onlyEntire keptBy cut fullName nameOf ownNamespace otherRow viewOf classes classFullName classNamed refFullName specBlob typeIn typeNameIn baseIndices baseTypes takes leftOver leftAfter tries signature signatureBlob reading readBy endBefore reads readersAmong readersFrom signatureIn signatureOf parameterName method class classRecord packed bits7 bits14 bits29 uint unrotated sint times sep digits decimal signedText dim dims look names simple typeFullName counted methodStart arguments shown parameters around classType generic shape array instance fnPtr modified form within type
+whole = record { stop = refl; classes = refl; packing = refl; size = refl }
 
 pub three : ThreeClasses
 unfolding threeTables threeStrings threeBlob leAt bitAt onesBelow rowCount overLimit opened tables reaches indexSizes indexSize heapSize hasCustomAttribute sumOf rowSize startOf isTable passes stopFrom stopKind wholeRows ifReached walked tabulate before stringAt bytesAt blobAt name string blob column walkBy extentBy onlyEntire keptBy cut fullName nameOf ownNamespace otherRow viewOf classes classFullName classNamed refFullName specBlob typeIn typeNameIn baseIndices baseTypes takes leftOver leftAfter tries signature signatureBlob reading readBy readSteps endBefore reads readersAmong readersFrom signatureIn signatureOf stepsIn methodSteps parameterName method class classRecord packed bits7 bits14 bits29 uint unrotated sint times sep digits decimal signedText dim dims look names simple typeFullName counted methodStart arguments shown parameters around classType generic shape array instance fnPtr modified form within type
@@ -77,6 +78,10 @@ rich = refl
 pub cut-tables : CutTables
 unfolding cutStrings cutTypes interfacesEnding leAt bitAt onesBelow rowCount overLimit opened tables reaches indexSizes indexSize heapSize hasCustomAttribute sumOf rowSize startOf isTable passes stopFrom stopKind wholeRows ifReached walked tabulate before stringAt bytesAt blobAt name string blob column walkBy extentBy onlyEntire keptBy cut fullName nameOf ownNamespace otherRow viewOf classes classFullName classNamed refFullName specBlob typeIn typeNameIn baseIndices baseTypes takes leftOver leftAfter tries signature signatureBlob reading readBy endBefore reads readersAmong readersFrom signatureIn signatureOf parameterName method class classRecord packed bits7 bits14 bits29 uint unrotated sint times sep digits decimal signedText dim dims look names simple typeFullName counted methodStart arguments shown parameters around classType generic shape array instance fnPtr modified form within type
 cut-tables = record { types = refl; entire = refl; cut = refl }
+
+pub layout-cases : LayoutCases
+unfolding cutStrings layoutTables leAt bitAt onesBelow rowCount overLimit opened tables reaches indexSizes indexSize heapSize hasCustomAttribute sumOf rowSize startOf isTable passes stopFrom stopKind wholeRows ifReached walked tabulate before stringAt bytesAt blobAt name string blob column walkBy extentBy onlyEntire keptBy cut fullName nameOf ownNamespace otherRow viewOf classes classFullName classNamed refFullName specBlob typeIn typeNameIn baseIndices baseTypes takes leftOver leftAfter tries signature signatureBlob reading readBy endBefore reads readersAmong readersFrom signatureIn signatureOf parameterName method class classRecord packed bits7 bits14 bits29 uint unrotated sint times sep digits decimal signedText dim dims look names simple typeFullName counted methodStart arguments shown parameters around classType generic shape array instance fnPtr modified form within type
+layout-cases = record { largest = refl; cut = refl; zeros = refl; nobody = refl }
 
 pub nested-names : NestedNames
 unfolding nesting nestingStrings leAt bitAt onesBelow rowCount overLimit opened tables reaches indexSizes indexSize heapSize hasCustomAttribute sumOf rowSize startOf isTable passes stopFrom stopKind wholeRows ifReached walked tabulate before stringAt bytesAt blobAt name string blob column walkBy extentBy onlyEntire keptBy cut fullName nameOf ownNamespace otherRow viewOf classes classFullName classNamed refFullName specBlob typeIn typeNameIn baseIndices baseTypes takes leftOver leftAfter tries signature signatureBlob reading readBy endBefore reads readersAmong readersFrom signatureIn signatureOf parameterName method class classRecord packed bits7 bits14 bits29 uint unrotated sint times sep digits decimal signedText dim dims look names simple typeFullName counted methodStart arguments shown parameters around classType generic shape array instance fnPtr modified form within type

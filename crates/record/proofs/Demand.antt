@@ -6,8 +6,8 @@ use Rattle.buffers.specs.Replies.{Named}
 use Rattle.buffers.proofs.Replies.{reply-same, named-same}
 use Rattle.record.specs.Answers.{walkAnswer}
 use Rattle.record.specs.Allowance.{numberCharged, nameCharged}
-use Rattle.record.specs.Demand.{Survives, RearrangementSurvives, SwapShows}
-use Rattle.record.proofs.Rearrangement.{view-same}
+use Rattle.record.specs.Demand.{Survives, RearrangementSurvives, ThreeStillAllowed, SwapShows}
+use Rattle.record.proofs.Rearrangement.{view-same, three-allowed}
 use Rattle.record.proofs.Swap
 
 -- Equal views survive.
@@ -31,6 +31,9 @@ pub rearrangement-survives : RearrangementSurvives
 rearrangement-survives o t u strings blob r =
     let e = view-same o t u strings blob r in
     (e, survives (view o t strings blob) (view o u strings blob) e)
+
+pub three-still-allowed : ThreeStillAllowed
+three-still-allowed = three-allowed
 
 pub swap-shows : SwapShows
 swap-shows = Swap.swap-shows

@@ -15,7 +15,7 @@ use Rattle.numbers.specs.Lists.{tabulate}
 use Rattle.tables.specs.Extents.{startOf, isTable, passes, stopFrom, stopKind, wholeRows, ifReached, walked, Extent, sizesIn, walkBy, extentBy, onlyEntire, keptBy}
 use Rattle.heaps.specs.Lookups.{before, stringAt, bytesAt, blobAt, name, string}
 use Rattle.record.specs.Columns.{column}
-use Rattle.layouts.specs.Kinds.{interfaceImpl, nestedClass, genericParam}
+use Rattle.layouts.specs.Kinds.{interfaceImpl, classLayout, nestedClass, genericParam}
 use Rattle.record.specs.Rows.{rowBytes}
 use Rattle.record.specs.Namespaces.{cut, fullName, nameOf, ownNamespace}
 use Rattle.record.specs.View.{place, otherRow, viewOf}
@@ -23,23 +23,30 @@ use Rattle.record.specs.Types.{look, typeFullName}
 use Rattle.record.specs.Names.{classes, classFullName, classNamed, typeIn, typeNameIn, baseIndices, baseTypes}
 use Rattle.record.specs.Methods.{takes, leftOver, leftAfter}
 use Rattle.record.specs.Record.{method, class, classRecord}
-use Rattle.record.specs.Rearrangement.{Pairing, Moved, InRow, SameOwner, SameClass, Tied, Whole, Rearranged, Swapped}
+use Rattle.record.specs.Rearrangement.{Pairing, Moved, InRow, SameOwner, SameClass, SameParent, Tied, Whole, ThreeMoved, Rearranged, Swapped}
 use Rattle.tables.specs.Apart.{Inside}
-use Rattle.record.specs.Example.{front, aHasC, dHasA, bInA, dInC, tOfA, uOfC, vOfA, old, moved, swapped, Example}
+use Rattle.record.specs.Example.{front, aHasC, dHasA, layoutOfA, layoutOfB, laterOfA, bInA, dInC, tOfA, uOfC, vOfA, old, moved, swapped, Example}
 
 -- Where the side tables lie.
 abbrev interfacesAt : Extent
-interfacesAt = record { start = 110; size = 4; rows = 2 }
+interfacesAt = record { start = 114; size = 4; rows = 2 }
+
+abbrev layoutsAt : Extent
+layoutsAt = record { start = 122; size = 8; rows = 3 }
 
 abbrev nestedAt : Extent
-nestedAt = record { start = 118; size = 4; rows = 2 }
+nestedAt = record { start = 146; size = 4; rows = 2 }
 
 abbrev genericsAt : Extent
-genericsAt = record { start = 126; size = 8; rows = 3 }
+genericsAt = record { start = 154; size = 8; rows = 3 }
 
 at-interfaces : place base (opened base old) old interfaceImpl ≡ interfacesAt
 unfolding leAt bitAt onesBelow rowCount overLimit opened tables reaches indexSizes indexSize heapSize hasCustomAttribute sumOf rowSize startOf isTable passes stopFrom stopKind wholeRows ifReached walked tabulate walkBy extentBy
 at-interfaces = refl
+
+at-layouts : place base (opened base old) old classLayout ≡ layoutsAt
+unfolding leAt bitAt onesBelow rowCount overLimit opened tables reaches indexSizes indexSize heapSize hasCustomAttribute sumOf rowSize startOf isTable passes stopFrom stopKind wholeRows ifReached walked tabulate walkBy extentBy
+at-layouts = refl
 
 at-nested : place base (opened base old) old nestedClass ≡ nestedAt
 unfolding leAt bitAt onesBelow rowCount overLimit opened tables reaches indexSizes indexSize heapSize hasCustomAttribute sumOf rowSize startOf isTable passes stopFrom stopKind wholeRows ifReached walked tabulate walkBy extentBy
@@ -52,6 +59,10 @@ at-generics = refl
 whole-interfaces : Whole base (opened base old) old interfaceImpl
 unfolding leAt bitAt onesBelow rowCount overLimit opened tables reaches indexSizes indexSize heapSize hasCustomAttribute sumOf rowSize startOf isTable passes stopFrom stopKind wholeRows ifReached walked tabulate walkBy extentBy
 whole-interfaces = refl
+
+whole-layouts : Whole base (opened base old) old classLayout
+unfolding leAt bitAt onesBelow rowCount overLimit opened tables reaches indexSizes indexSize heapSize hasCustomAttribute sumOf rowSize startOf isTable passes stopFrom stopKind wholeRows ifReached walked tabulate walkBy extentBy
+whole-layouts = refl
 
 whole-nested : Whole base (opened base old) old nestedClass
 unfolding leAt bitAt onesBelow rowCount overLimit opened tables reaches indexSizes indexSize heapSize hasCustomAttribute sumOf rowSize startOf isTable passes stopFrom stopKind wholeRows ifReached walked tabulate walkBy extentBy
@@ -118,6 +129,12 @@ same-interfaces zero h = refl
 same-interfaces (suc zero) h = refl
 same-interfaces (suc (suc i)) h = absurd (omega arith)
 
+same-layouts : (i : ℕ) → i < 3 → rowBytes layoutsAt moved (flip i) ≡ rowBytes layoutsAt old i
+same-layouts zero h = refl
+same-layouts (suc zero) h = refl
+same-layouts (suc (suc zero)) h = refl
+same-layouts (suc (suc (suc i))) h = absurd (omega arith)
+
 same-nested : (i : ℕ) → i < 2 → rowBytes nestedAt moved (flip i) ≡ rowBytes nestedAt old i
 same-nested zero h = refl
 same-nested (suc zero) h = refl
@@ -133,6 +150,10 @@ free-interfaces : ¬ SameClass (sizesIn base (opened base old)) aHasC dHasA
 unfolding column leAt bitAt onesBelow rowCount overLimit opened tables reaches indexSizes indexSize heapSize hasCustomAttribute sumOf tabulate
 free-interfaces e = let z : _≡_ {A = ℕ} 2 5 = e in omega arith
 
+free-layouts : ¬ SameParent (sizesIn base (opened base old)) layoutOfA layoutOfB
+unfolding column leAt bitAt onesBelow rowCount overLimit opened tables reaches indexSizes indexSize heapSize hasCustomAttribute sumOf tabulate
+free-layouts e = let z : _≡_ {A = ℕ} 2 3 = e in omega arith
+
 free-generics : ¬ SameOwner (sizesIn base (opened base old)) tOfA uOfC
 unfolding column leAt bitAt onesBelow rowCount overLimit opened tables reaches indexSizes indexSize heapSize hasCustomAttribute sumOf tabulate
 free-generics e = let z : _≡_ {A = ℕ} 4 8 = e in omega arith
@@ -145,20 +166,21 @@ free-nested (inr (inl e)) = let z : _≡_ {A = ℕ} 3 5 = e in omega arith
 free-nested (inr (inr e)) = let z : _≡_ {A = ℕ} 2 5 = e in omega arith
 
 -- Bytes before the side tables and past the end are alike.
-others : (p : ℕ) → ¬ Inside interfacesAt p → ¬ Inside nestedAt p → ¬ Inside genericsAt p → getD moved p 0 ≡ getD old p 0
-others p a b c = go (decLt p 110) (decLt p 118) (decLt p 126) (decLt p 150)
+others : (p : ℕ) → ¬ Inside interfacesAt p → ¬ Inside layoutsAt p → ¬ Inside nestedAt p → ¬ Inside genericsAt p → getD moved p 0 ≡ getD old p 0
+others p a d b c = go (decLt p 114) (decLt p 122) (decLt p 146) (decLt p 154) (decLt p 178)
   where
-    go : Dec (p < 110) → Dec (p < 118) → Dec (p < 126) → Dec (p < 150) → getD moved p 0 ≡ getD old p 0
-    go (yes l) _ _ _ =
-        List·getD-append front (dHasA ++ aHasC ++ dInC ++ bInA ++ uOfC ++ tOfA ++ vOfA) 0 p l
-        ∙ sym (List·getD-append front (aHasC ++ dHasA ++ bInA ++ dInC ++ tOfA ++ uOfC ++ vOfA) 0 p l)
-    go (no x) (yes l) _ _ = absurd (a (omega arith, omega arith))
-    go (no x) (no y) (yes l) _ = absurd (b (omega arith, omega arith))
-    go (no x) (no y) (no z) (yes l) = absurd (c (omega arith, omega arith))
-    go (no x) (no y) (no z) (no l) = List·getD-eq-default moved 0 {n = p} (omega arith) ∙ sym (List·getD-eq-default old 0 {n = p} (omega arith))
+    go : Dec (p < 114) → Dec (p < 122) → Dec (p < 146) → Dec (p < 154) → Dec (p < 178) → getD moved p 0 ≡ getD old p 0
+    go (yes l) _ _ _ _ =
+        List·getD-append front (dHasA ++ aHasC ++ layoutOfB ++ layoutOfA ++ laterOfA ++ dInC ++ bInA ++ uOfC ++ tOfA ++ vOfA) 0 p l
+        ∙ sym (List·getD-append front (aHasC ++ dHasA ++ layoutOfA ++ layoutOfB ++ laterOfA ++ bInA ++ dInC ++ tOfA ++ uOfC ++ vOfA) 0 p l)
+    go (no x) (yes l) _ _ _ = absurd (a (omega arith, omega arith))
+    go (no x) (no y) (yes l) _ _ = absurd (d (omega arith, omega arith))
+    go (no x) (no y) (no z) (yes l) _ = absurd (b (omega arith, omega arith))
+    go (no x) (no y) (no z) (no k) (yes l) = absurd (c (omega arith, omega arith))
+    go (no x) (no y) (no z) (no k) (no l) = List·getD-eq-default moved 0 {n = p} (omega arith) ∙ sym (List·getD-eq-default old 0 {n = p} (omega arith))
 
-allowed : Rearranged base old moved
-allowed =
+three-moved : ThreeMoved base old moved
+three-moved =
     record {
       generic-whole = whole-generics;
       interface-whole = whole-interfaces;
@@ -166,28 +188,36 @@ allowed =
       generics = rw at-generics (flipped _ 3 (omega arith) (rowBytes genericsAt old) (rowBytes genericsAt moved) same-generics free-generics);
       interfaces = rw at-interfaces (flipped _ 2 (omega arith) (rowBytes interfacesAt old) (rowBytes interfacesAt moved) same-interfaces free-interfaces);
       nestings = rw at-nested (flipped _ 2 (omega arith) (rowBytes nestedAt old) (rowBytes nestedAt moved) same-nested free-nested);
+    }
+
+allowed : Rearranged base old moved
+allowed =
+    record {
+      three = three-moved;
+      layouts = λ _. rw at-layouts (flipped _ 3 (omega arith) (rowBytes layoutsAt old) (rowBytes layoutsAt moved) same-layouts free-layouts);
+      layouts-stay = λ n. absurd (n whole-layouts);
       same-length = refl;
-      elsewhere = λ p g. others p (rw at-interfaces at (g interfaceImpl refl)) (rw at-nested at (g nestedClass refl)) (rw at-generics at (g genericParam refl));
+      elsewhere = λ p g. others p (rw at-interfaces at (g interfaceImpl refl)) (rw at-layouts at (g classLayout refl)) (rw at-nested at (g nestedClass refl)) (rw at-generics at (g genericParam refl));
     }
 
 -- Row 1 of the generics is as it was.
-middle : (i : ℕ) → i < 8 → getD swapped (134 + i) 0 ≡ getD old (134 + i) 0
+middle : (i : ℕ) → i < 8 → getD swapped (162 + i) 0 ≡ getD old (162 + i) 0
 middle i h =
-    sym (getD-drop 134 swapped i 0)
+    sym (getD-drop 162 swapped i 0)
     ∙ List·getD-append uOfC tOfA 0 i h
     ∙ sym (List·getD-append uOfC vOfA 0 i h)
-    ∙ getD-drop 134 old i 0
+    ∙ getD-drop 162 old i 0
 
 -- The exchange of rows 0 and 2 changes no byte outside them.
 unswapped : (p : ℕ) → ¬ InRow genericsAt 0 p → ¬ InRow genericsAt 2 p → getD swapped p 0 ≡ getD old p 0
-unswapped p a b = go (decLt p 126) (decLt p 134) (decLt p 142) (decLt p 150)
+unswapped p a b = go (decLt p 154) (decLt p 162) (decLt p 170) (decLt p 178)
   where
-    go : Dec (p < 126) → Dec (p < 134) → Dec (p < 142) → Dec (p < 150) → getD swapped p 0 ≡ getD old p 0
+    go : Dec (p < 154) → Dec (p < 162) → Dec (p < 170) → Dec (p < 178) → getD swapped p 0 ≡ getD old p 0
     go (yes l) _ _ _ =
-        List·getD-append (front ++ (aHasC ++ dHasA ++ bInA ++ dInC)) (vOfA ++ uOfC ++ tOfA) 0 p l
-        ∙ sym (List·getD-append (front ++ (aHasC ++ dHasA ++ bInA ++ dInC)) (tOfA ++ uOfC ++ vOfA) 0 p l)
+        List·getD-append (front ++ (aHasC ++ dHasA ++ layoutOfA ++ layoutOfB ++ laterOfA ++ bInA ++ dInC)) (vOfA ++ uOfC ++ tOfA) 0 p l
+        ∙ sym (List·getD-append (front ++ (aHasC ++ dHasA ++ layoutOfA ++ layoutOfB ++ laterOfA ++ bInA ++ dInC)) (tOfA ++ uOfC ++ vOfA) 0 p l)
     go (no x) (yes l) _ _ = absurd (a (omega arith, omega arith))
-    go (no x) (no y) (yes l) _ = let e : 134 + (p - 134) ≡ p = omega arith in rw e at (middle (p - 134) (omega arith))
+    go (no x) (no y) (yes l) _ = let e : 162 + (p - 162) ≡ p = omega arith in rw e at (middle (p - 162) (omega arith))
     go (no x) (no y) (no z) (yes l) = absurd (b (omega arith, omega arith))
     go (no x) (no y) (no z) (no l) = List·getD-eq-default swapped 0 {n = p} (omega arith) ∙ sym (List·getD-eq-default old 0 {n = p} (omega arith))
 
@@ -203,7 +233,7 @@ exchanged =
     }
 
 differs : moved ≢ old
-differs e = let z : _≡_ {A = ℕ} 5 2 = ap (λ l. getD l 110 0) e in omega arith
+differs e = let z : _≡_ {A = ℕ} 5 2 = ap (λ l. getD l 114 0) e in omega arith
 
 pub example : Example
 unfolding leAt bitAt onesBelow rowCount overLimit opened tables reaches indexSizes indexSize heapSize hasCustomAttribute sumOf rowSize startOf isTable passes stopFrom stopKind wholeRows ifReached walked tabulate walkBy extentBy before stringAt bytesAt blobAt name string column onlyEntire keptBy cut fullName nameOf ownNamespace otherRow viewOf look typeFullName classes classFullName classNamed typeIn typeNameIn baseIndices baseTypes takes leftOver leftAfter method class classRecord

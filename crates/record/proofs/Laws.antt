@@ -18,7 +18,7 @@ use Rattle.record.specs.View.{View, view, viewOf, isSide, otherRow, View
 use Rattle.record.specs.Names.{classes}
 use Rattle.record.specs.Record.{Class, class, classRecord}
 use Rattle.buffers.specs.Replies.{refusedBy, value}
-use Rattle.record.specs.Answers.{_⟫_, ready, orNoRow, item, walkAnswer, theClass, NumberCall, NameCall, ClassCount, ClassFlags, GenericCount, BaseCount, MethodCount, MethodFlags, MethodGenericCount, ParameterCount, ClassName, GenericName, BaseName, MethodName, MethodGenericName, ReturnType, ParameterType, ParameterName, classCount, classFlags, genericCount, baseCount, methodCount, methodFlags, methodGenericCount, parameterCount, className, genericName, baseName, methodName, methodGenericName, returnType, parameterType, parameterName, numberAnswer, nameAnswer, OpeningFirst}
+use Rattle.record.specs.Answers.{_⟫_, ready, orNoRow, item, walkAnswer, theClass, NumberCall, NameCall, ClassCount, ClassFlags, ClassPacking, ClassSize, GenericCount, BaseCount, MethodCount, MethodFlags, MethodGenericCount, ParameterCount, ClassName, GenericName, BaseName, MethodName, MethodGenericName, ReturnType, ParameterType, ParameterName, classCount, classFlags, classPacking, classSize, genericCount, baseCount, methodCount, methodFlags, methodGenericCount, parameterCount, className, genericName, baseName, methodName, methodGenericName, returnType, parameterType, parameterName, numberAnswer, nameAnswer, OpeningFirst}
 
 -- What the options say of an opened stream, they say by the index sizes.
 module _ (o p : Options) (h : Header) (t : List ℕ) (e : sizesIn o h ≡ sizesIn p h) where
@@ -60,12 +60,14 @@ class-none v c r h =
     ∙ ap orNoRow (tabulate-past (class v) 0 (classes v) c h)
 
 pub opening-first : OpeningFirst
-unfolding classCount classFlags genericCount baseCount methodCount methodFlags methodGenericCount parameterCount className genericName baseName methodName methodGenericName returnType parameterType parameterName
+unfolding classCount classFlags classPacking classSize genericCount baseCount methodCount methodFlags methodGenericCount parameterCount className genericName baseName methodName methodGenericName returnType parameterType parameterName
 opening-first v why e = (numbers, names)
   where
     numbers : (call : NumberCall) → numberAnswer call v ≡ refusedBy why
     numbers ClassCount = rw e refl
     numbers (ClassFlags c) = rw e refl
+    numbers (ClassPacking c) = rw e refl
+    numbers (ClassSize c) = rw e refl
     numbers (GenericCount c) = rw e refl
     numbers (BaseCount c) = rw e refl
     numbers (MethodCount c) = rw e refl

@@ -23,7 +23,7 @@ use Rattle.record.specs.Methods as methods
 use Rattle.record.specs.Methods.{leftAfter, signatureBlob, reading, readBy, readSteps, signatureIn, stepsIn, paramText}
 use Rattle.record.specs.Record.{parametersFrom, method, class, classRecord}
 use Rattle.record.specs.Answers.{_⟫_, ready, item, theMethod}
-use Rattle.record.specs.Answers.{NumberCall, ClassCount, ClassFlags, GenericCount, BaseCount, MethodCount, MethodFlags, MethodGenericCount, ParameterCount, classCount, classFlags, genericCount, baseCount, methodCount, methodFlags, methodGenericCount, parameterCount}
+use Rattle.record.specs.Answers.{NumberCall, ClassCount, ClassFlags, ClassPacking, ClassSize, GenericCount, BaseCount, MethodCount, MethodFlags, MethodGenericCount, ParameterCount, classCount, classFlags, classPacking, classSize, genericCount, baseCount, methodCount, methodFlags, methodGenericCount, parameterCount}
 use Rattle.record.specs.Answers.{NameCall, ClassName, GenericName, BaseName, MethodName, MethodGenericName, ReturnType, ParameterType, ParameterName, className, genericName, baseName, methodName, methodGenericName, returnType, parameterType, parameterName}
 use Rattle.record.specs.Allowance.{baseWork, methodWork, numberCharged, nameCharged}
 use Rattle.record.specs.Modes.{InOrder, Agree, ModesAgree}
@@ -40,6 +40,7 @@ viewInMode b v =
       row = v .row;
       generics = v .generics;
       interfaces = v .interfaces;
+      layout = v .layout;
       namespace = v .namespace;
       strings = v .strings;
       blob = v .blob;
@@ -122,9 +123,11 @@ module _ (v : View) where
     method-work c m = rw record-same (of-listed old c m (λ h k. steps-same c (leftAfter old c + m) h (omega arith) k))
 
     numbers-same : (call : NumberCall) (allowance : ℕ) → numberCharged call new allowance ≡ numberCharged call old allowance
-    unfolding classCount classFlags genericCount baseCount methodCount methodFlags methodGenericCount parameterCount
+    unfolding classCount classFlags classPacking classSize genericCount baseCount methodCount methodFlags methodGenericCount parameterCount
     numbers-same ClassCount n = rw record-same
     numbers-same (ClassFlags c) n = rw record-same
+    numbers-same (ClassPacking c) n = rw record-same
+    numbers-same (ClassSize c) n = rw record-same
     numbers-same (GenericCount c) n = rw record-same
     numbers-same (BaseCount c) n = rw (base-work c, record-same)
     numbers-same (MethodCount c) n = rw record-same

@@ -9,7 +9,7 @@ use Prim.Native.Nat.{ℕ, zero, suc, _+_, _-_, _*_, _≤_, _<_}
 use native.Mathlib.Omega.{arith}
 use borrow.Author.Tests.{le-ltb}
 use lib.Dec.{eqb, ltb}
-use lib.ListN.{length}
+use lib.ListN.{length, getElem?}
 use Rattle.numbers.specs.Fixed.{leAt}
 use Rattle.numbers.specs.Bits.{bitAt, onesBelow}
 use Rattle.numbers.specs.Lists.{tabulate}
@@ -38,7 +38,7 @@ use Rattle.record.specs.View.{View, view, viewOf, otherRow, sideRow, sid
 use Rattle.record.specs.Names.{nameIn, named, rowsIn, classes, classIndex, classRow, methodIndex, methodRow, classFullName, classNamed}
 use Rattle.record.specs.Methods.{methodLists, leftAfter}
 use Rattle.record.specs.Record.{Method, Class, method, class, classRecord}
-use Rattle.record.specs.Answers.{_⟫_, ready, item, walkAnswer, theClasses, theClass, theMethod, theParameter, NumberCall, NameCall, ClassCount, ClassFlags, GenericCount, BaseCount, MethodCount, MethodFlags, MethodGenericCount, ParameterCount, ClassName, GenericName, BaseName, MethodName, MethodGenericName, ReturnType, ParameterType, ParameterName, classCount, classFlags, genericCount, baseCount, methodCount, methodFlags, methodGenericCount, parameterCount, className, genericName, baseName, methodName, methodGenericName, returnType, parameterType, parameterName, numberAnswer, nameAnswer}
+use Rattle.record.specs.Answers.{_⟫_, ready, orNoRow, item, walkAnswer, theClasses, theClass, theLayout, theMethod, theParameter, NumberCall, NameCall, ClassCount, ClassFlags, ClassPacking, ClassSize, GenericCount, BaseCount, MethodCount, MethodFlags, MethodGenericCount, ParameterCount, ClassName, GenericName, BaseName, MethodName, MethodGenericName, ReturnType, ParameterType, ParameterName, classCount, classFlags, classPacking, classSize, genericCount, baseCount, methodCount, methodFlags, methodGenericCount, parameterCount, className, genericName, baseName, methodName, methodGenericName, returnType, parameterType, parameterName, numberAnswer, nameAnswer}
 use Rattle.record.specs.Cases.{wholeTables, wholeStrings}
 use Rattle.record.specs.Reasons.{StringReasons, Told, LookupReasons, tellsReason, ReasonTold, ReasonUntold, OwnReason, NamesAgree, SmallestReasons}
 use Rattle.record.proofs.Read.{class-row, method-row, left-le}
@@ -107,10 +107,12 @@ in-turn : {A B D : Type 0} (a : Answer A) (f : A → Answer B) (g : B → Answer
 in-turn (refused w) f g = refl
 in-turn (value x) f g = refl
 
+row-quiet : {A : Type 0} (o : Option A) → Quiet (orNoRow o)
+row-quiet none = (omega arith, refl)
+row-quiet (some x) = tt
+
 item-quiet : {A : Type 0} (l : List A) (i : ℕ) → Quiet (item l i)
-item-quiet [] i = (omega arith, refl)
-item-quiet (x ∷ l) zero = tt
-item-quiet (x ∷ l) (suc i) = item-quiet l i
+item-quiet l i = row-quiet (getElem? l i)
 
 -- The answers on the way.
 module _ (v : View) (opening : Quiet (ready (v .header .answer))) where
@@ -120,6 +122,9 @@ module _ (v : View) (opening : Quiet (ready (v .header .answer))) where
   class-quiet : (c : ℕ) → Quiet (theClass v c)
   class-quiet c = says Quiet (λ w e. e) (theClasses v) (λ l. item l c) classes-quiet (λ l. item-quiet l c)
 
+  layout-quiet : (c : ℕ) → Quiet (theLayout v c)
+  layout-quiet c = says Quiet (λ w e. e) (theClass v c) (λ k. orNoRow (k .layout)) (class-quiet c) (λ k. row-quiet (k .layout))
+
   method-quiet : (c m : ℕ) → Quiet (theMethod v c m)
   method-quiet c m = says Quiet (λ w e. e) (theClass v c) (λ k. item (k .methods) m) (class-quiet c) (λ k. item-quiet (k .methods) m)
 
@@ -128,9 +133,11 @@ module _ (v : View) (opening : Quiet (ready (v .header .answer))) where
       says Quiet (λ w e. e) (theMethod v c m) (λ k. item (k .parameters) p) (method-quiet c m) (λ k. item-quiet (k .parameters) p)
 
   numbers-quiet : (call : NumberCall) → Quiet (numberAnswer call v)
-  unfolding classCount classFlags genericCount baseCount methodCount methodFlags methodGenericCount parameterCount
+  unfolding classCount classFlags classPacking classSize genericCount baseCount methodCount methodFlags methodGenericCount parameterCount
   numbers-quiet ClassCount = says Quiet (λ w e. e) (theClasses v) _ classes-quiet (λ _. tt)
   numbers-quiet (ClassFlags c) = says Quiet (λ w e. e) (theClass v c) _ (class-quiet c) (λ _. tt)
+  numbers-quiet (ClassPacking c) = says Quiet (λ w e. e) (theLayout v c) _ (layout-quiet c) (λ _. tt)
+  numbers-quiet (ClassSize c) = says Quiet (λ w e. e) (theLayout v c) _ (layout-quiet c) (λ _. tt)
   numbers-quiet (GenericCount c) = says Quiet (λ w e. e) (theClass v c) _ (class-quiet c) (λ _. tt)
   numbers-quiet (BaseCount c) = says Quiet (λ w e. e) (theClass v c) _ (class-quiet c) (λ _. tt)
   numbers-quiet (MethodCount c) = says Quiet (λ w e. e) (theClass v c) _ (class-quiet c) (λ _. tt)

@@ -15,7 +15,7 @@ use Rattle.record.specs.View.{View}
 use Rattle.record.specs.Names.{baseSteps}
 use Rattle.record.specs.Methods.{leftAfter, stepsIn}
 use Rattle.record.specs.Answers.{_⟫_, theClass, theMethod, Numbered}
-use Rattle.record.specs.Answers.{NumberCall, ClassCount, ClassFlags, GenericCount, BaseCount, MethodCount, MethodFlags, MethodGenericCount, ParameterCount, numberAnswer}
+use Rattle.record.specs.Answers.{NumberCall, ClassCount, ClassFlags, ClassPacking, ClassSize, GenericCount, BaseCount, MethodCount, MethodFlags, MethodGenericCount, ParameterCount, numberAnswer}
 use Rattle.record.specs.Answers.{NameCall, ClassName, GenericName, BaseName, MethodName, MethodGenericName, ReturnType, ParameterType, ParameterName, nameAnswer}
 
 -- What a call for a base type, or for their number, counts: of a class that is there, all of its base types.
@@ -31,6 +31,8 @@ methodWork v c m = theMethod v c m ⟫ λ _. value (stepsIn v c (leftAfter v c +
 abbrev pub numberWork : NumberCall → View → Answer ℕ
 numberWork ClassCount v = value 0
 numberWork (ClassFlags c) v = value 0
+numberWork (ClassPacking c) v = value 0
+numberWork (ClassSize c) v = value 0
 numberWork (GenericCount c) v = value 0
 numberWork (BaseCount c) v = baseWork v c
 numberWork (MethodCount c) v = value 0

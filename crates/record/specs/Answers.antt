@@ -14,7 +14,7 @@ use Rattle.buffers.specs.declared.Reply.{Reply}
 use Rattle.header.specs.declared.Opened.{Opened}
 use Rattle.header.specs.declared.Opened.the-variants.{Refused, Ready}
 use Rattle.tables.specs.Extents.{Walked, walkBy}
-use Rattle.record.specs.View.{View}
+use Rattle.record.specs.View.{View, ClassLayout}
 use Rattle.record.specs.Record.{Parameter, Method, Class, classRecord}
 
 -- A value found by way of another; a refusal stands.
@@ -59,6 +59,16 @@ classCount v = theClasses v ⟫ λ l. value (length l)
 
 unfoldable pub classFlags : View → ℕ → Answer ℕ
 classFlags v c = theClass v c ⟫ λ k. value (k .flags)
+
+-- Packing and size of class c (II.22.8): 4 where the class is not there, and where no row names it.
+abbrev pub theLayout : View → ℕ → Answer ClassLayout
+theLayout v c = theClass v c ⟫ λ k. orNoRow (k .layout)
+
+unfoldable pub classPacking : View → ℕ → Answer ℕ
+classPacking v c = theLayout v c ⟫ λ l. value (l .packing)
+
+unfoldable pub classSize : View → ℕ → Answer ℕ
+classSize v c = theLayout v c ⟫ λ l. value (l .size)
 
 unfoldable pub genericCount : View → ℕ → Answer ℕ
 genericCount v c = theClass v c ⟫ λ k. value (length (k .generics))
@@ -107,6 +117,8 @@ parameterName v c m p = theParameter v c m p ⟫ λ k. nameOr5 (k .name)
 pub data NumberCall : Type 0 where
   ClassCount : NumberCall
   ClassFlags : ℕ → NumberCall
+  ClassPacking : ℕ → NumberCall
+  ClassSize : ℕ → NumberCall
   GenericCount : ℕ → NumberCall
   BaseCount : ℕ → NumberCall
   MethodCount : ℕ → NumberCall
@@ -127,6 +139,8 @@ pub data NameCall : Type 0 where
 abbrev pub numberAnswer : NumberCall → View → Answer ℕ
 numberAnswer ClassCount v = classCount v
 numberAnswer (ClassFlags c) v = classFlags v c
+numberAnswer (ClassPacking c) v = classPacking v c
+numberAnswer (ClassSize c) v = classSize v c
 numberAnswer (GenericCount c) v = genericCount v c
 numberAnswer (BaseCount c) v = baseCount v c
 numberAnswer (MethodCount c) v = methodCount v c

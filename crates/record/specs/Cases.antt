@@ -16,13 +16,13 @@ use Rattle.buffers.specs.Texts.{Text, q, same}
 use Rattle.heaps.specs.Lookups.{Name, found, missing}
 use Rattle.record.specs.Types.{Env, type}
 use Rattle.tables.specs.Extents.{sizesIn}
-use Rattle.record.specs.View.{View, view}
+use Rattle.record.specs.View.{View, ClassLayout, view}
 use Rattle.header.specs.Stream.{base, opened}
 use Rattle.record.specs.Names.{levels, baseTypes, baseSteps}
 use Rattle.record.specs.Methods.{stepsIn}
 use Rattle.record.specs.Record.{Method, classRecord}
 use Rattle.buffers.specs.Replies.{Answer, refused, value, nameOr5, nameReply, nameBuffer}
-use Rattle.record.specs.Answers.{walkAnswer}
+use Rattle.record.specs.Answers.{walkAnswer, classPacking, classSize}
 use Rattle.record.specs.Modes.{inMode, InOrder}
 
 -- Equal numbers with a sign, and equal values that may be missing.
@@ -137,10 +137,12 @@ wholeStrings = 0x00 ∷ 0x41 ∷ 0x00 ∷ 0x4E ∷ 0x00 ∷ 0x4C ∷ 0x60 ∷ 0x
 abbrev pub wholeView : View
 wholeView = view base wholeTables wholeStrings []
 
--- stop=64, one class, N.L, flags 1, and nothing else.
+-- stop=64, one class, N.L, flags 1, neither packing nor size, and nothing else.
 pub record WholeCase : Type 0 where
   pub stop : walkAnswer wholeView .stop ≡ value 64
-  pub classes : classRecord wholeView ≡ record { name = found (q "N.L"); flags = 1; generics = []; bases = []; methods = [] } ∷ []
+  pub classes : classRecord wholeView ≡ record { name = found (q "N.L"); flags = 1; layout = none; generics = []; bases = []; methods = [] } ∷ []
+  pub packing : classPacking wholeView 0 ≡ refusedWith 4
+  pub size : classSize wholeView 0 ≡ refusedWith 4
 
 -- Three classes and five methods. The methods of the first two classes start at 0 and 3; the third class has that MethodList column. Each
 -- class has one generic parameter, X, Y, Z, but Z has that owner, and each method returns the class's first generic parameter.
@@ -257,11 +259,11 @@ midMethods =
 abbrev pub RichCase : Type 0
 RichCase =
     classRecord (view base richTables richStrings richBlob)
-    ≡ record { name = found (q "N.Outer"); flags = 1; generics = found (q "T") ∷ missing NullIndex ∷ []; bases = q "System.Object" ∷ q "Mid.In" ∷ q "System.Object" ∷ []; methods = outerMethods }
-    ∷ record { name = found (q "N.Outer.Mid"); flags = 0; generics = []; bases = []; methods = midMethods }
-    ∷ record { name = found (q "Mid.In"); flags = 0; generics = found (q "U") ∷ []; bases = q "System.Object<U>" ∷ []; methods = [] }
-    ∷ record { name = missing NullIndex; flags = 0; generics = []; bases = []; methods = [] }
-    ∷ record { name = found (q ".E"); flags = 0; generics = []; bases = []; methods = [] }
+    ≡ record { name = found (q "N.Outer"); flags = 1; layout = none; generics = found (q "T") ∷ missing NullIndex ∷ []; bases = q "System.Object" ∷ q "Mid.In" ∷ q "System.Object" ∷ []; methods = outerMethods }
+    ∷ record { name = found (q "N.Outer.Mid"); flags = 0; layout = none; generics = []; bases = []; methods = midMethods }
+    ∷ record { name = found (q "Mid.In"); flags = 0; layout = none; generics = found (q "U") ∷ []; bases = q "System.Object<U>" ∷ []; methods = [] }
+    ∷ record { name = missing NullIndex; flags = 0; layout = none; generics = []; bases = []; methods = [] }
+    ∷ record { name = found (q ".E"); flags = 0; layout = none; generics = []; bases = []; methods = [] }
     ∷ []
 
 -- Cut tables. A TypeDef row with this name and nothing else; a header of these two bytes of Valid.
@@ -291,6 +293,31 @@ pub record CutTables : Type 0 where
   pub types : map (λ k. k .name) (classRecord (view base cutTypes cutStrings [])) ≡ found (q "A") ∷ []
   pub entire : basesOf (interfacesEnding (0 ∷ [])) ≡ (q "B" ∷ q "B" ∷ []) ∷ [] ∷ []
   pub cut : basesOf (interfacesEnding []) ≡ [] ∷ [] ∷ []
+
+-- Packing and size (II.22.8). Classes A and B, so many ClassLayout rows with these bytes, and what the record has of each class.
+unfoldable pub layoutTables : ℕ → List ℕ → List ℕ
+layoutTables n rows = twoBytes 4 0x80 ++ 3 ∷ 0 ∷ 0 ∷ 0 ∷ n ∷ 0 ∷ 0 ∷ 0 ∷ typeRow 0 ++ typeRow 1 ++ typeRow 3 ++ rows
+
+abbrev pub layoutsOf : ℕ → List ℕ → List (Option ClassLayout)
+layoutsOf n rows = map (λ k. k .layout) (classRecord (view base (layoutTables n rows) cutStrings []))
+
+pub record LayoutCases : Type 0 where
+  -- the largest values of B, and others of A
+  pub largest :
+      layoutsOf 2 (0xFF ∷ 0xFF ∷ 0xFF ∷ 0xFF ∷ 0xFF ∷ 0xFF ∷ 3 ∷ 0 ∷ 1 ∷ 2 ∷ 3 ∷ 4 ∷ 5 ∷ 6 ∷ 2 ∷ 0 ∷ [])
+      ≡ some (record { packing = 0x0201; size = 0x0605_0403 }) ∷ some (record { packing = 65_535; size = 4_294_967_295 }) ∷ []
+  -- the same without the last byte: the whole row before the cut is kept
+  pub cut :
+      layoutsOf 2 (0xFF ∷ 0xFF ∷ 0xFF ∷ 0xFF ∷ 0xFF ∷ 0xFF ∷ 3 ∷ 0 ∷ 1 ∷ 2 ∷ 3 ∷ 4 ∷ 5 ∷ 6 ∷ 2 ∷ [])
+      ≡ none ∷ some (record { packing = 65_535; size = 4_294_967_295 }) ∷ []
+  -- two rows of A: the first decides, and 0 is a value
+  pub zeros :
+      layoutsOf 2 (0 ∷ 0 ∷ 0 ∷ 0 ∷ 0 ∷ 0 ∷ 2 ∷ 0 ∷ 4 ∷ 0 ∷ 16 ∷ 0 ∷ 0 ∷ 0 ∷ 2 ∷ 0 ∷ [])
+      ≡ some (record { packing = 0; size = 0 }) ∷ none ∷ []
+  -- parents 0, 1 and past the table name nobody
+  pub nobody :
+      layoutsOf 3 (1 ∷ 0 ∷ 1 ∷ 0 ∷ 0 ∷ 0 ∷ 0 ∷ 0 ∷ 1 ∷ 0 ∷ 1 ∷ 0 ∷ 0 ∷ 0 ∷ 1 ∷ 0 ∷ 1 ∷ 0 ∷ 1 ∷ 0 ∷ 0 ∷ 0 ∷ 4 ∷ 0 ∷ [])
+      ≡ none ∷ none ∷ []
 
 -- Nested classes. Classes A, B and C, and these two NestedClass rows, each the nested and the enclosing TypeDef row.
 unfoldable pub nesting : ℕ → ℕ → ℕ → ℕ → List ℕ

@@ -3,7 +3,7 @@ use mathlib.Core.List.{List}
 use Prim.Native.Nat.{ℕ}
 use lib.ListN.{take, getD}
 use Rattle.numbers.specs.Fixed.{leAt}
-use Rattle.layouts.specs.Kinds.{typeRef, typeDef, methodDef, param, interfaceImpl, typeSpec, nestedClass, genericParam}
+use Rattle.layouts.specs.Kinds.{typeRef, typeDef, methodDef, param, interfaceImpl, classLayout, typeSpec, nestedClass, genericParam}
 use Rattle.layouts.specs.Columns.{Two, columnsOf, widthIn, sumOf}
 use Rattle.layouts.specs.declared.IndexSizes.{IndexSizes}
 
@@ -57,6 +57,16 @@ implClass = column interfaceImpl 0
 
 abbrev pub implInterface : IndexSizes → List ℕ → ℕ
 implInterface = column interfaceImpl 1
+
+-- ClassLayout, II.22.8: PackingSize, ClassSize, Parent.
+abbrev pub packingSize : IndexSizes → List ℕ → ℕ
+packingSize = column classLayout 0
+
+abbrev pub classSize : IndexSizes → List ℕ → ℕ
+classSize = column classLayout 1
+
+abbrev pub layoutParent : IndexSizes → List ℕ → ℕ
+layoutParent = column classLayout 2
 
 -- TypeSpec, II.22.39: Signature.
 abbrev pub specSignature : IndexSizes → List ℕ → ℕ

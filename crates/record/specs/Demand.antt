@@ -16,7 +16,7 @@ use Rattle.record.specs.Names.{classIndex}
 use Rattle.record.specs.Record.{class, classRecord}
 use Rattle.record.specs.Answers.{walkAnswer, NumberCall, NameCall}
 use Rattle.record.specs.Allowance.{numberCharged, nameCharged, NumberedCharged, NamedCharged}
-use Rattle.record.specs.Rearrangement.{Rearranged, Swapped}
+use Rattle.record.specs.Rearrangement.{Rearranged, ThreeRearranged, Swapped}
 
 -- Two views give the same class record, the same walk and the same answer to every call, asked alike: with the same arguments, what the
 -- allowance holds before among them, and with buffers of equal length, however filled before. A refusal is an answer, and what is left of
@@ -39,6 +39,10 @@ abbrev pub RearrangementSurvives : Type 1
 RearrangementSurvives =
     (o : Options) (t u strings blob : List ℕ) → Rearranged o t u
     → (view o u strings blob ≡ view o t strings blob) × Survives (view o t strings blob) (view o u strings blob)
+
+-- What demand 3 first allowed, of three tables, is allowed still.
+abbrev pub ThreeStillAllowed : Type 0
+ThreeStillAllowed = (o : Options) (t u : List ℕ) → ThreeRearranged o t u → Rearranged o t u
 
 -- Second half: two GenericParam rows of a listed class that have different names (or one missing), exchanged, change the values of that class:
 -- the texts of its generic names. Two that are both missing, for whatever reasons, have the same name.

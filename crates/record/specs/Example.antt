@@ -1,8 +1,10 @@
--- A tables stream, an allowed rearrangement of it that moves rows of all three side tables, and a forbidden exchange.
--- Classes A, B, C, D: B is nested in A and D in C; A has interface C and D has interface A; A has generics T and V, C has U.
+-- A tables stream, an allowed rearrangement of it that moves rows of all four side tables, and a forbidden exchange.
+-- Classes A, B, C, D: B is nested in A and D in C; A has interface C and D has interface A; A has generics T and V, C has U;
+-- A has two ClassLayout rows, the first of which decides, and B has one.
 use mathlib.Core.Path.{_≡_}
 use mathlib.Core.Logic.{_≢_}
 use mathlib.Core.List.{List, [], _∷_, _++_}
+use mathlib.Core.Option.{none, some}
 use Prim.Native.Nat.{ℕ}
 use Rattle.buffers.specs.Texts.{q}
 use Rattle.heaps.specs.Lookups.{found}
@@ -11,11 +13,11 @@ use Rattle.record.specs.View.{view}
 use Rattle.record.specs.Record.{classRecord}
 use Rattle.record.specs.Rearrangement.{Rearranged, Swapped}
 
--- Header, counts (5 TypeDef, 2 InterfaceImpl, 2 NestedClass, 3 GenericParam), and the TypeDef rows.
+-- Header, counts (5 TypeDef, 2 InterfaceImpl, 3 ClassLayout, 2 NestedClass, 3 GenericParam), and the TypeDef rows.
 abbrev pub front : List ℕ
 front =
-    0 ∷ 0 ∷ 0 ∷ 0 ∷ 2 ∷ 0 ∷ 0 ∷ 1 ∷ 4 ∷ 2 ∷ 0 ∷ 0 ∷ 0 ∷ 6 ∷ 0 ∷ 0 ∷ 0 ∷ 0 ∷ 0 ∷ 0 ∷ 0 ∷ 0 ∷ 0 ∷ 0 ∷
-    5 ∷ 0 ∷ 0 ∷ 0 ∷ 2 ∷ 0 ∷ 0 ∷ 0 ∷ 2 ∷ 0 ∷ 0 ∷ 0 ∷ 3 ∷ 0 ∷ 0 ∷ 0 ∷
+    0 ∷ 0 ∷ 0 ∷ 0 ∷ 2 ∷ 0 ∷ 0 ∷ 1 ∷ 4 ∷ 0x82 ∷ 0 ∷ 0 ∷ 0 ∷ 6 ∷ 0 ∷ 0 ∷ 0 ∷ 0 ∷ 0 ∷ 0 ∷ 0 ∷ 0 ∷ 0 ∷ 0 ∷
+    5 ∷ 0 ∷ 0 ∷ 0 ∷ 2 ∷ 0 ∷ 0 ∷ 0 ∷ 3 ∷ 0 ∷ 0 ∷ 0 ∷ 2 ∷ 0 ∷ 0 ∷ 0 ∷ 3 ∷ 0 ∷ 0 ∷ 0 ∷
     0 ∷ 0 ∷ 0 ∷ 0 ∷ 0 ∷ 0 ∷ 0 ∷ 0 ∷ 0 ∷ 0 ∷ 0 ∷ 0 ∷ 0 ∷ 0 ∷
     0 ∷ 0 ∷ 0 ∷ 0 ∷ 1 ∷ 0 ∷ 0 ∷ 0 ∷ 0 ∷ 0 ∷ 0 ∷ 0 ∷ 0 ∷ 0 ∷
     0 ∷ 0 ∷ 0 ∷ 0 ∷ 3 ∷ 0 ∷ 0 ∷ 0 ∷ 0 ∷ 0 ∷ 0 ∷ 0 ∷ 0 ∷ 0 ∷
@@ -32,6 +34,16 @@ aHasC = 2 ∷ 0 ∷ 16 ∷ 0 ∷ []
 
 abbrev pub dHasA : List ℕ
 dHasA = 5 ∷ 0 ∷ 8 ∷ 0 ∷ []
+
+-- ClassLayout: of A packing 4 and size 16, then 8 and 32; of B packing 1 and size 5.
+abbrev pub layoutOfA : List ℕ
+layoutOfA = 4 ∷ 0 ∷ 16 ∷ 0 ∷ 0 ∷ 0 ∷ 2 ∷ 0 ∷ []
+
+abbrev pub layoutOfB : List ℕ
+layoutOfB = 1 ∷ 0 ∷ 5 ∷ 0 ∷ 0 ∷ 0 ∷ 3 ∷ 0 ∷ []
+
+abbrev pub laterOfA : List ℕ
+laterOfA = 8 ∷ 0 ∷ 32 ∷ 0 ∷ 0 ∷ 0 ∷ 2 ∷ 0 ∷ []
 
 -- NestedClass: B in A, D in C.
 abbrev pub bInA : List ℕ
@@ -51,15 +63,15 @@ abbrev pub vOfA : List ℕ
 vOfA = 0 ∷ 0 ∷ 0 ∷ 0 ∷ 4 ∷ 0 ∷ 13 ∷ 0 ∷ []
 
 abbrev pub old : List ℕ
-old = front ++ (aHasC ++ dHasA ++ bInA ++ dInC ++ tOfA ++ uOfC ++ vOfA)
+old = front ++ (aHasC ++ dHasA ++ layoutOfA ++ layoutOfB ++ laterOfA ++ bInA ++ dInC ++ tOfA ++ uOfC ++ vOfA)
 
 -- Each table's first two rows change places.
 abbrev pub moved : List ℕ
-moved = front ++ (dHasA ++ aHasC ++ dInC ++ bInA ++ uOfC ++ tOfA ++ vOfA)
+moved = front ++ (dHasA ++ aHasC ++ layoutOfB ++ layoutOfA ++ laterOfA ++ dInC ++ bInA ++ uOfC ++ tOfA ++ vOfA)
 
 -- The two generics of A change places.
 abbrev pub swapped : List ℕ
-swapped = front ++ (aHasC ++ dHasA ++ bInA ++ dInC ++ vOfA ++ uOfC ++ tOfA)
+swapped = front ++ (aHasC ++ dHasA ++ layoutOfA ++ layoutOfB ++ laterOfA ++ bInA ++ dInC ++ vOfA ++ uOfC ++ tOfA)
 
 -- The rearrangement is allowed, though bytes differ; the record is the one described; the exchange is a swap.
 pub record Example : Type 0 where
@@ -68,8 +80,8 @@ pub record Example : Type 0 where
   pub exchanged : Swapped base old swapped 0 2
   pub classes :
       classRecord (view base old strings [])
-      ≡ record { name = found (q "A"); flags = 0; generics = found (q "T") ∷ found (q "V") ∷ []; bases = q "C" ∷ []; methods = [] }
-      ∷ record { name = found (q "A.B"); flags = 0; generics = []; bases = []; methods = [] }
-      ∷ record { name = found (q "C"); flags = 0; generics = found (q "U") ∷ []; bases = []; methods = [] }
-      ∷ record { name = found (q "C.D"); flags = 0; generics = []; bases = q "A" ∷ []; methods = [] }
+      ≡ record { name = found (q "A"); flags = 0; layout = some (record { packing = 4; size = 16 }); generics = found (q "T") ∷ found (q "V") ∷ []; bases = q "C" ∷ []; methods = [] }
+      ∷ record { name = found (q "A.B"); flags = 0; layout = some (record { packing = 1; size = 5 }); generics = []; bases = []; methods = [] }
+      ∷ record { name = found (q "C"); flags = 0; layout = none; generics = found (q "U") ∷ []; bases = []; methods = [] }
+      ∷ record { name = found (q "C.D"); flags = 0; layout = none; generics = []; bases = q "A" ∷ []; methods = [] }
       ∷ []

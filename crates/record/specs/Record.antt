@@ -8,8 +8,8 @@ use Rattle.record.specs.Missing.{over, orDefault}
 use Rattle.buffers.specs.Texts.{Text}
 use Rattle.heaps.specs.Lookups.{Name}
 use Rattle.record.specs.Columns.{typeFlags, methodFlags, methodName}
-use Rattle.record.specs.View.{View}
-use Rattle.record.specs.Names.{nameIn, classes, classRow, methodRow, classNamed, classGenerics, methodGenerics, baseTypes, numberIn}
+use Rattle.record.specs.View.{View, ClassLayout}
+use Rattle.record.specs.Names.{nameIn, classes, classIndex, classRow, methodRow, classNamed, classGenerics, methodGenerics, baseTypes, numberIn}
 use Rattle.record.specs.Methods.{leftAfter, signatureIn, parameterName}
 
 pub record Parameter : Type 0 where
@@ -26,6 +26,8 @@ pub record Method : Type 0 where
 pub record Class : Type 0 where
   pub name : Name
   pub flags : ℕ
+  -- packing and size, both there or both missing
+  pub layout : Option ClassLayout
   pub generics : List Name
   pub bases : List Text
   pub methods : List Method
@@ -54,6 +56,7 @@ class v c =
     record {
       name = classNamed v c;
       flags = numberIn v typeFlags (classRow v c);
+      layout = v .layout (classIndex c);
       generics = classGenerics v c;
       bases = baseTypes v c;
       methods = tabulate (method v c) (leftAfter v c) (leftAfter v (c + 1) - leftAfter v c);

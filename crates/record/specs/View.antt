@@ -1,27 +1,35 @@
--- The view: all that the record and the answers may read of the three streams. The side tables (GenericParam, InterfaceImpl, NestedClass)
--- stand in it only by what they say of an owner, of a class, and of the namespaces.
+-- The view: all that the record and the answers may read of the three streams. The side tables (GenericParam, InterfaceImpl, NestedClass and
+-- ClassLayout) stand in it only by what they say of an owner, of a class, and of the namespaces.
 use mathlib.Core.Path.{_≡_}
 use mathlib.Core.Bool.{Bool, cond, _||_}
 use mathlib.Core.List.{List}
 use mathlib.Core.Option.{Option, none, some}
 use Prim.Native.Nat.{ℕ}
 use lib.Dec.{eqb, ltb}
-use lib.ListN.{length}
+use lib.ListN.{length, getElem?}
 use Rattle.header.specs.Stream.{opened}
 use Rattle.header.specs.declared.Options.{Options}
 use Rattle.header.specs.declared.Header.{Header}
 use Rattle.buffers.specs.Texts.{Text}
 use Rattle.heaps.specs.Lookups.{Name, name}
 use Rattle.layouts.specs.declared.IndexSizes.{IndexSizes}
-use Rattle.layouts.specs.Kinds.{interfaceImpl, nestedClass, genericParam}
-use Rattle.record.specs.Columns.{owner, genericName, implClass, implInterface}
+use Rattle.layouts.specs.Kinds.{interfaceImpl, classLayout, nestedClass, genericParam}
+use Rattle.record.specs.Columns.{owner, genericName, implClass, implInterface, packingSize, classSize, layoutParent}
 use Rattle.tables.specs.Extents.{Extent, sizesIn, extent, keptRows}
 use Rattle.record.specs.Rows.{rowBytes, runs, ofKey}
 use Rattle.record.specs.Namespaces.{ownNamespace, nest}
 
 -- The side tables.
 abbrev pub isSide : ℕ → Bool
-isSide k = eqb k interfaceImpl || (eqb k nestedClass || eqb k genericParam)
+isSide k = eqb k interfaceImpl || (eqb k classLayout || (eqb k nestedClass || eqb k genericParam))
+
+-- What a ClassLayout row says (II.22.8), as stored: 0 is a value.
+pub record ClassLayout : Type 0 where
+  pub packing : ℕ
+  pub size : ℕ
+
+abbrev pub layoutIn : IndexSizes → List ℕ → ClassLayout
+layoutIn w r = record { packing = packingSize w r; size = classSize w r }
 
 pub record View : Type 0 where
   -- what opening finds: a refusal, or heap sizes, row counts and the place of the first table
@@ -38,6 +46,8 @@ pub record View : Type 0 where
   pub generics : ℕ → List Name
   -- the Interface columns of a class, by the Class column as stored
   pub interfaces : ℕ → List ℕ
+  -- what the first ClassLayout row of a class says, by the Parent column as stored
+  pub layout : ℕ → Option ClassLayout
   -- the namespace of a TypeDef row, from 1, once all NestedClass rows have acted
   pub namespace : ℕ → Option Text
   pub strings : List ℕ
@@ -70,6 +80,7 @@ module _ (o : Options) (h : Header) (t : List ℕ) where
         row = otherRow;
         generics = ofKey (owner (sizesIn o h)) (λ r. name strings (genericName (sizesIn o h) r)) (sideRow genericParam) (sideRows genericParam);
         interfaces = ofKey (implClass (sizesIn o h)) (implInterface (sizesIn o h)) (sideRow interfaceImpl) (sideRows interfaceImpl);
+        layout = λ c. getElem? (ofKey (layoutParent (sizesIn o h)) (layoutIn (sizesIn o h)) (sideRow classLayout) (sideRows classLayout) c) 0;
         namespace =
             runs (nest (sizesIn o h) strings otherRow) (sideRow nestedClass) (sideRows nestedClass)
             (ownNamespace (sizesIn o h) strings otherRow);

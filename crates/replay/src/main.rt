@@ -31,7 +31,7 @@ fn read_front(file: i32, buffer: &mut [u8], n: usize) -> bool {
 }
 
 // Words for the layout, and for the rows by key.
-const WORDS: usize = 19_000;
+const WORDS: usize = 24_000;
 
 // Holds a piece of the listing against as many bytes of the file.
 fn compare_piece(file: i32, input: &[u8], from: Cursor, left: usize) -> Compared {

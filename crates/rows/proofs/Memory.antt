@@ -78,9 +78,10 @@ module _ {t l : List ℕ} (l′ : List ℕ) (laid : Laid t l) (same : (i : ℕ) 
       → ((j : ℕ) → j < columns.heldCount → 0 < heldLength l′ j → columns.size ≤ heldStart l′ j)
       → Sorted (cell t l columns.owner) (rowsAt l columns.owner) (heldAt l′ columns.byOwner)
       → Sorted (cell t l columns.implClass) (rowsAt l columns.implClass) (heldAt l′ columns.byClass)
+      → Sorted (cell t l columns.layoutParent) (rowsAt l columns.layoutParent) (heldAt l′ columns.byParent)
       → Nested (cell t l columns.nested) (cell t l columns.enclosing) (rowsAt l columns.nested) (heldAt l′ columns.byNested)
       → Laid t l′
-  relaid size up inside behind generics interfaces nests =
+  relaid size up inside behind generics interfaces layouts nests =
       record {
         size = size;
         ready = rw same-options (laid .ready);
@@ -91,5 +92,6 @@ module _ {t l : List ℕ} (l′ : List ℕ) (laid : Laid t l) (same : (i : ℕ) 
         behind = behind;
         generics = sorted-as columns.owner (omega arith) _ generics;
         interfaces = sorted-as columns.implClass (omega arith) _ interfaces;
+        layouts = sorted-as columns.layoutParent (omega arith) _ layouts;
         nests = nested-as _ nests;
       }

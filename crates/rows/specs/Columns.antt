@@ -68,6 +68,16 @@ owner = 17
 abbrev pub genericName : ℕ
 genericName = 18
 
+-- ClassLayout, II.22.8
+abbrev pub packingSize : ℕ
+packingSize = 19
+
+abbrev pub classSize : ℕ
+classSize = 20
+
+abbrev pub layoutParent : ℕ
+layoutParent = 21
+
 -- How many columns there are.
 abbrev pub count : ℕ
 count = readCount
@@ -118,7 +128,7 @@ heldNumbers = 2
 abbrev pub heldWords : ℕ
 heldWords = 1
 
--- These are OWNER, IMPL_CLASS and NESTED.
+-- These are OWNER, IMPL_CLASS, NESTED and LAYOUT_PARENT.
 abbrev pub byOwner : ℕ
 byOwner = 0
 
@@ -128,8 +138,11 @@ byClass = 1
 abbrev pub byNested : ℕ
 byNested = 2
 
+abbrev pub byParent : ℕ
+byParent = 3
+
 abbrev pub heldCount : ℕ
-heldCount = 3
+heldCount = 4
 
 abbrev pub size : ℕ
 size = held + heldNumbers * heldCount

@@ -79,7 +79,8 @@ abbrev pub heldAt : List ℕ → ℕ → List ℕ
 heldAt l j = part l (heldStart l j) (heldLength l j)
 
 -- l begins with the layout of the tables stream t, which was opened and not refused. The limit of rows, an option, has 32 bits. The mark is
--- true, and the memories, which stand behind the layout's own words, are: GenericParam by Owner, InterfaceImpl by Class, and NestedClass.
+-- true, and the memories, which stand behind the layout's own words, are: GenericParam by Owner, InterfaceImpl by Class,
+-- ClassLayout by Parent, and NestedClass.
 pub record Laid (t l : List ℕ) : Type 0 where
   pub size : columns.size ≤ length l
   pub ready : headerIn t l .answer ≡ Ready
@@ -90,6 +91,7 @@ pub record Laid (t l : List ℕ) : Type 0 where
   pub behind : (j : ℕ) → j < columns.heldCount → 0 < heldLength l j → columns.size ≤ heldStart l j
   pub generics : Sorted (cell t l columns.owner) (rowsAt l columns.owner) (heldAt l columns.byOwner)
   pub interfaces : Sorted (cell t l columns.implClass) (rowsAt l columns.implClass) (heldAt l columns.byClass)
+  pub layouts : Sorted (cell t l columns.layoutParent) (rowsAt l columns.layoutParent) (heldAt l columns.byParent)
   pub nests : Nested (cell t l columns.nested) (cell t l columns.enclosing) (rowsAt l columns.nested) (heldAt l columns.byNested)
 
 -- The view of a stream by its layout.

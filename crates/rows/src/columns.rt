@@ -39,6 +39,12 @@ pub const ENCLOSING: usize = 16;
 pub const OWNER: usize = 17;
 
 pub const GENERIC_NAME: usize = 18;
+// ClassLayout, II.22.8
+pub const PACKING_SIZE: usize = 19;
+
+pub const CLASS_SIZE: usize = 20;
+
+pub const LAYOUT_PARENT: usize = 21;
 
 // How many columns there are.
 pub const COUNT: usize = layouts::columns::COUNT;
@@ -69,13 +75,15 @@ pub const HELD: usize = MARK + 1;
 pub const HELD_NUMBERS: usize = 2;
 
 pub const HELD_WORDS: usize = 1;
-// These are OWNER, IMPL_CLASS and NESTED.
+// These are OWNER, IMPL_CLASS, NESTED and LAYOUT_PARENT.
 pub const BY_OWNER: usize = 0;
 
 pub const BY_CLASS: usize = 1;
 
 pub const BY_NESTED: usize = 2;
 
-pub const HELD_COUNT: usize = 3;
+pub const BY_PARENT: usize = 3;
+
+pub const HELD_COUNT: usize = 4;
 
 pub const SIZE: usize = HELD + HELD_NUMBERS * HELD_COUNT;

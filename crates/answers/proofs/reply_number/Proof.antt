@@ -6,6 +6,8 @@ use Rattle.answers.proofs.reply_number.Reads as reads
 use Rattle.answers.proofs.reply_number.Lts as lts
 use Rattle.answers.proofs.with_own.Reads as with-own-reads
 use Rattle.class_answers.proofs.class_flags_of.Reads as class-flags-of-reads
+use Rattle.class_answers.proofs.class_packing_of.Reads as class-packing-of-reads
+use Rattle.class_answers.proofs.class_size_of.Reads as class-size-of-reads
 use Rattle.class_answers.proofs.count_bases_of.Reads as count-bases-of-reads
 use Rattle.class_answers.proofs.count_generics_of.Reads as count-generics-of-reads
 use Rattle.method_answers.proofs.count_method_generics_of.Reads as count-method-generics-of-reads
@@ -103,6 +105,18 @@ count-params-of-requires c κs = search needs
 with-own-requires-3 : tie.Need-with-own-requires-3
 with-own-requires-3 c κs = search needs
 
+enum-known-question-8 : tie.Need-enum-known-question-8
+enum-known-question-8 c = search needs
+
+class-packing-of-requires : tie.Need-class-packing-of-requires
+class-packing-of-requires c κs = search needs
+
+enum-known-question-9 : tie.Need-enum-known-question-9
+enum-known-question-9 c = search needs
+
+class-size-of-requires : tie.Need-class-size-of-requires
+class-size-of-requires c κs = search needs
+
 -- src/lib.rt:97:1
 returns : tie.Need-returns
 returns c =
@@ -146,6 +160,12 @@ returns-8 c =
     let place = c .before .before .place-method3 .ensures (start .args .strings .now) (start .args .blob .now) (start .pre .1 .own) in
     (rw (c .before .before .before .before .question7 .given .1) (c .before .count-params-of .ensures _ (place .0)), c .with-own3 .ensures _ _ (start .pre .1) (place .1))
 
+returns-9 : tie.Need-returns-9
+returns-9 c = (rw (c .before .before .question8 .given .1) (c .class-packing-of .ensures _ _), c .before .before .before .before .before .before .before .before .before .pre .1)
+
+returns-10 : tie.Need-returns-10
+returns-10 c = (rw (c .before .before .question9 .given .1) (c .class-size-of .ensures _ _), c .before .before .before .before .before .before .before .before .before .pre .1)
+
 pub reply-number-spec : {M : Type 1} → statement M
 reply-number-spec =
     tie.close
@@ -172,6 +192,10 @@ reply-number-spec =
     place-method-requires-3
     count-params-of-requires
     with-own-requires-3
+    enum-known-question-8
+    class-packing-of-requires
+    enum-known-question-9
+    class-size-of-requires
     returns
     returns-2
     returns-3
@@ -179,4 +203,6 @@ reply-number-spec =
     returns-5
     returns-6
     returns-7
-    returns-8)
+    returns-8
+    returns-9
+    returns-10)

@@ -68,10 +68,18 @@ returns-12 : tie.Need-returns-12
 unfolding look numberedPlaces
 returns-12 c = rw (c .match .keys12) refl
 
--- src/lib.rt:31:1
 returns-13 : tie.Need-returns-13
+unfolding look numberedPlaces
+returns-13 c = rw (c .match .keys13) refl
+
+returns-14 : tie.Need-returns-14
+unfolding look numberedPlaces
+returns-14 c = rw (c .match .keys14) refl
+
+-- src/lib.rt:31:1
+returns-15 : tie.Need-returns-15
 unfolding numberedPlaces
-returns-13 c = sym (look-past _ (Unit {0}) numberedPlaces Done (c .match .rest))
+returns-15 c = sym (look-past _ (Unit {0}) numberedPlaces Done (c .match .rest))
 
 pub place-of-spec : {M : Type 1} → statement M
 place-of-spec =
@@ -89,4 +97,6 @@ place-of-spec =
     returns-10
     returns-11
     returns-12
-    returns-13)
+    returns-13
+    returns-14
+    returns-15)

@@ -48,10 +48,18 @@ returns-8 : tie.Need-returns-8
 unfolding look numberQuestions
 returns-8 c = rw (c .match .keys8) refl
 
--- src/lib.rt:36:1
 returns-9 : tie.Need-returns-9
+unfolding look numberQuestions
+returns-9 c = rw (c .match .keys9) refl
+
+returns-10 : tie.Need-returns-10
+unfolding look numberQuestions
+returns-10 c = rw (c .match .keys10) refl
+
+-- src/lib.rt:36:1
+returns-11 : tie.Need-returns-11
 unfolding numberQuestions
-returns-9 c = sym (look-past _ (Unit {0}) (numberQuestions _ _) none (c .match .rest))
+returns-11 c = sym (look-past _ (Unit {0}) (numberQuestions _ _) none (c .match .rest))
 
 pub number-asked-spec : {M : Type 1} → statement M
 number-asked-spec =
@@ -65,4 +73,6 @@ number-asked-spec =
     returns-6
     returns-7
     returns-8
-    returns-9)
+    returns-9
+    returns-10
+    returns-11)

@@ -37,6 +37,12 @@ enum-told-5 c = search needs
 enum-told-6 : tie.Need-enum-told-6
 enum-told-6 c = search needs
 
+enum-told-7 : tie.Need-enum-told-7
+enum-told-7 c = search needs
+
+enum-told-8 : tie.Need-enum-told-8
+enum-told-8 c = search needs
+
 returns : tie.Need-returns
 returns c = rw (c .before .before .question .given .1) (c .pass-bases-of .ensures)
 
@@ -61,6 +67,12 @@ returns-7 c = rw (c .enum-told5 .given .1) (takes-nothing _)
 returns-8 : tie.Need-returns-8
 returns-8 c = rw (c .enum-told6 .given .1) (takes-nothing _)
 
+returns-9 : tie.Need-returns-9
+returns-9 c = rw (c .enum-told7 .given .1) (takes-nothing _)
+
+returns-10 : tie.Need-returns-10
+returns-10 c = rw (c .enum-told8 .given .1) (takes-nothing _)
+
 pub tally-number-spec : {M : Type 1} → statement M
 tally-number-spec =
     tie.close
@@ -75,6 +87,8 @@ tally-number-spec =
     enum-told-4
     enum-told-5
     enum-told-6
+    enum-told-7
+    enum-told-8
     returns
     returns-2
     returns-3
@@ -82,4 +96,6 @@ tally-number-spec =
     returns-5
     returns-6
     returns-7
-    returns-8)
+    returns-8
+    returns-9
+    returns-10)

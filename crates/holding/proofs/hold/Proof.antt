@@ -72,13 +72,23 @@ hold-sorted-requires-2 c κs =
     let start = c .before .before .before .before .before .before .before .before .before .before .before .before .before .before .before .before .before .before .before in
     (start .pre .0, ((omega arith, omega arith, omega (arith, rows-narrow (start .pre .0) columns.typeName (omega arith), c .before .before .before .before .before .before .before .before .before .before .before .count-rows .ensures), λ m s. s), c .before .before .before .hold-nested .ensures))
 
+add-hold-sorted-2 : tie.Need-add-hold-sorted-2
+add-hold-sorted-2 c =
+    let start = c .before .before .before .before .before .before .before .before .before .before .before .before .before .before .before .before .before .before .before .before .before .before .before in
+    record { fits = omega (arith, rows-narrow (start .pre .0) columns.typeName (omega arith), c .before .before .before .before .before .before .before .before .before .before .before .before .before .before .before .count-rows .ensures) }
+
+hold-sorted-requires-3 : tie.Need-hold-sorted-requires-3
+hold-sorted-requires-3 c κs =
+    let start = c .before .before .before .before .before .before .before .before .before .before .before .before .before .before .before .before .before .before .before .before .before .before .before in
+    (start .pre .0, ((omega arith, omega arith, omega (arith, rows-narrow (start .pre .0) columns.typeName (omega arith), c .before .before .before .before .before .before .before .before .before .before .before .before .before .before .before .count-rows .ensures), λ m s. s), c .before .before .before .hold-sorted2 .ensures))
+
 -- src/lib.rt:103:1
 same-length : tie.Need-same-length
 same-length c = search needs
 
 -- src/lib.rt:103:1
 returns : tie.Need-returns
-returns c = hold-end _ (c .before .before .before .before .before .before .before .before .before .before .before .before .before .before .before .before .before .before .before .before .before .before .pre .0) (c .before .before .hold-sorted2 .ensures)
+returns c = hold-end _ (c .before .before .before .before .before .before .before .before .before .before .before .before .before .before .before .before .before .before .before .before .before .before .before .before .before .before .pre .0) (c .before .before .hold-sorted3 .ensures)
 
 pub hold-spec : {M : Type 1} → statement M
 hold-spec =
@@ -95,5 +105,7 @@ hold-spec =
     hold-nested-requires
     add-hold-sorted
     hold-sorted-requires-2
+    add-hold-sorted-2
+    hold-sorted-requires-3
     same-length
     returns)

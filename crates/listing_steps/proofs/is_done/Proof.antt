@@ -6,7 +6,7 @@ use denote.Enum.Declared.{tagOf}
 use types.Run.{OneOf, miss}
 use Rattle.lines.proofs.Place.{the-type}
 use Rattle.lines.specs.declared.Place.{Place}
-use Rattle.lines.specs.declared.Place.the-variants.{Stop, Classes, Class, Flags, Generic, Base, Method, MethodFlags, MethodGeneric, Returns, ParamType, ParamName, Done}
+use Rattle.lines.specs.declared.Place.the-variants.{Stop, Classes, Class, Flags, Generic, Base, Method, MethodFlags, MethodGeneric, Returns, ParamType, ParamName, Done, Packing, Size}
 use Rattle.listing_steps.specs.Filling.{isDone}
 use borrow.Author.Needs.{needs}
 use Rattle.listing_steps.proofs.is_done.Statement.{statement}
@@ -15,13 +15,15 @@ use Rattle.listing_steps.proofs.is_done.Reads as reads
 use Rattle.listing_steps.proofs.is_done.Lts as lts
 
 abbrev others : List ℕ
-others = 0 ∷ 1 ∷ 2 ∷ 3 ∷ 4 ∷ 5 ∷ 6 ∷ 7 ∷ 8 ∷ 9 ∷ 10 ∷ 11 ∷ []
+others = 0 ∷ 1 ∷ 2 ∷ 3 ∷ 4 ∷ 5 ∷ 6 ∷ 7 ∷ 8 ∷ 9 ∷ 10 ∷ 11 ∷ 13 ∷ 14 ∷ []
 
 not-done : (p : Place) → OneOf others (tagOf the-type p) → false ≡ isDone p
 not-done Stop h = refl
 not-done Classes h = refl
 not-done Class h = refl
 not-done Flags h = refl
+not-done Packing h = refl
+not-done Size h = refl
 not-done Generic h = refl
 not-done Base h = refl
 not-done Method h = refl

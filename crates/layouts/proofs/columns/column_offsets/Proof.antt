@@ -83,6 +83,9 @@ returns c =
     (c16 .sum9 .ensures ∙ omega arith) ▸
     refl ▸
     (c18 .sum10 .ensures ∙ omega arith) ▸
+    refl ▸
+    refl ▸
+    refl ▸
     refl
 
 pub column-offsets-spec : {M : Type 1} → statement M

@@ -76,12 +76,17 @@ wide-requires-16 c κs = search needs
 wide-requires-17 : tie.Need-wide-requires-17
 wide-requires-17 c κs = search needs
 
+-- src/columns.rt:128:9
+wide-requires-18 : tie.Need-wide-requires-18
+wide-requires-18 c κs = search needs
+
 -- src/columns.rt:82:1
 -- cK is the place after the call for column K.
 returns : tie.Need-returns
 unfolding tables
 returns c =
-    let c18 = c in
+    let c21 = c in
+    let c18 = c21 .before in
     let c17 = c18 .before in
     let c16 = c17 .before in
     let c15 = c16 .before in
@@ -117,6 +122,9 @@ returns c =
     c16 .wide15 .ensures ▸
     c17 .wide16 .ensures ▸
     c18 .wide17 .ensures ▸
+    refl ▸
+    refl ▸
+    c21 .wide18 .ensures ▸
     refl
 
 pub column-widths-spec : {M : Type 1} → statement M
@@ -140,4 +148,5 @@ column-widths-spec =
     wide-requires-15
     wide-requires-16
     wide-requires-17
+    wide-requires-18
     returns)
