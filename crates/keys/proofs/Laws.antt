@@ -20,10 +20,10 @@ use Rattle.record.specs.View.{ClassLayout, layoutIn, viewOf, sideRow, sideRows}
 use Rattle.record.proofs.Keyed.{cut}
 use Rattle.layouts.specs.Read.{readColumn}
 use Rattle.rows.specs.Columns as columns
-use Rattle.rows.specs.Layout.{optionsIn, headerIn, rowsAt, cell, Ascends, Laid, viewIn}
+use Rattle.rows.specs.Layout.{optionsIn, headerIn, rowsAt, cell, Laid, viewIn}
 use Rattle.rows.specs.Held.{keyed}
-use Rattle.rows.proofs.Laws.{rows-at, ascending}
-use Rattle.keys.specs.Keyed.{FoundIs, SplitAt}
+use Rattle.rows.proofs.Laws.{rows-at}
+use Rattle.keys.specs.Keyed.{FoundIs}
 use Rattle.keys.specs.declared.Row.{Row}
 use Rattle.keys.specs.declared.Row.the-variants.{At, NoRow}
 
@@ -55,49 +55,6 @@ module _ (f : ℕ → ℕ) (k : ℕ) where
   -- A scan over n rows that is at its end has seen all of the key.
   pub scan-over : {i n seen : ℕ} (rows : ℕ) → i ≤ n → n ≡ rows → n ≤ i → seen ≡ keyed f k i → seen ≡ keyed f k rows
   scan-over {i} rows a e b s = let end : i ≡ rows = omega arith in s ∙ ap (keyed f k) end
-
--- ---- Halving
-
--- The rows before low have lesser keys than k, and those from high on have not.
-pub record Halving (f : ℕ → ℕ) (k n low high : ℕ) : Type 0 where
-  pub order : low ≤ high
-  pub within : high ≤ n
-  pub below : (i : ℕ) → i < low → f i < k
-  pub above : (i : ℕ) → high ≤ i → i < n → k ≤ f i
-
-module _ (f : ℕ → ℕ) (k n : ℕ) where
-  pub halve-start : {high : ℕ} → high ≡ n → Halving f k n 0 high
-  halve-start e = record { order = omega arith; within = omega arith; below = λ i h. absurd (omega arith); above = λ i h m. absurd (omega arith) }
-
-  pub halve-end : {low high : ℕ} → Halving f k n low high → high ≤ low → SplitAt f k n low
-  halve-end h e =
-      record { within = omega (arith, h .order, h .within); below = h .below; above = λ i l m. h .above i (omega (arith, h .order)) m }
-
-  -- The row in the middle has a lesser key, and so has every row before it; or it has not, and no row after it has.
-  module _ (a : Ascends f n) {low high : ℕ} (h : Halving f k n low high) (i : ℕ) (lo : low ≤ i) (hi : i < high) {x : ℕ} (read : x ≡ f i) where
-    pub halve-up : x < k → Halving f k n (i + 1) high
-    halve-up l =
-        record {
-          order = omega arith;
-          within = h .within;
-          below = λ j m.
-              let e : j + (i - j) ≡ i = omega arith in
-              let same : f (j + (i - j)) ≡ f i = ap f e in
-              omega (arith, ascending f n a j (i - j) (omega (arith, h .within)));
-          above = h .above;
-        }
-
-    pub halve-down : k ≤ x → Halving f k n low i
-    halve-down l =
-        record {
-          order = lo;
-          within = omega (arith, h .within);
-          below = h .below;
-          above = λ j m b.
-              let e : i + (j - i) ≡ j = omega arith in
-              let same : f (i + (j - i)) ≡ f j = ap f e in
-              omega (arith, ascending f n a i (j - i) (omega arith));
-        }
 
 -- ---- The list of a key, of any table
 

@@ -14,12 +14,6 @@ abbrev pub FoundIs : (ℕ → ℕ) → ℕ → ℕ → ℕ → Row → Type 0
 FoundIs f k n nth (At i) = (i < n) × (f i ≡ k) × (keyed f k i ≡ nth)
 FoundIs f k n nth NoRow = keyed f k n ≤ nth
 
--- The first r of n rows have lesser keys than k, and no row from there on has.
-pub record SplitAt (f : ℕ → ℕ) (k n r : ℕ) : Type 0 where
-  pub within : r ≤ n
-  pub below : (i : ℕ) → i < r → f i < k
-  pub above : (i : ℕ) → r ≤ i → i < n → k ≤ f i
-
 -- Where the rows of the key k stand among the sorted ones, if the memory has room for it and for the next.
 abbrev pub BucketIs : (ℕ → ℕ) → ℕ → List ℕ → ℕ → Bucket → Type 0
 BucketIs f n m k (Among first end) = (k + 1 + n < length m) × (first ≡ lower f n k) × (end ≡ lower f n k + keyed f k n)

@@ -3,9 +3,9 @@
 ghost use mathlib.Core.Path.{_≡_};
 ghost use Prim.Native.Nat.{ℕ, _<_, _≤_};
 ghost use Rattle.rows.specs.Columns as columns;
-ghost use Rattle.rows.specs.Layout.{Laid, Ascends, rowsAt, cell};
+ghost use Rattle.rows.specs.Layout.{Laid, rowsAt, cell};
 ghost use Rattle.rows.specs.Held.{keyed, Sorted};
-ghost use Rattle.keys.specs.Keyed.{FoundIs, SplitAt, BucketIs};
+ghost use Rattle.keys.specs.Keyed.{FoundIs, BucketIs};
 
 // A row of a table, counted from 0.
 pub enum Row {
@@ -17,25 +17,6 @@ pub enum Row {
 enum Bucket {
     Among { first: usize, end: usize },
     NoRoom,
-}
-
-// How many rows have a lesser key, in a column that ascends.
-pub fn count_below(tables: &[u8], layout: &[u32], column: usize, key: usize) -> usize
-    requires { ⌜ Laid (now tables) (now layout) ⌝ }
-    requires { ⌜ (column < columns.count) × Ascends (cell (now tables) (now layout) column) (rowsAt (now layout) column) ⌝ }
-    ensures { λ r. ⌜ SplitAt (cell (now (tables .entry)) (now (layout .entry)) column) key (rowsAt (now (layout .entry)) column) r ⌝ }
-{
-    let mut low = 0;
-    let mut high = rows::count_rows(layout, column);
-    while low < high {
-        let middle = low + (high - low) / 2;
-        if (rows::read_column(tables, layout, column, middle) as usize) < key {
-            low = middle + 1;
-        } else {
-            high = middle;
-        }
-    }
-    low
 }
 
 // The memory of a column, where its rows are sorted by it; no words for a column that has none.

@@ -177,23 +177,13 @@ rows-narrow {t} {l} laid c k =
       few-counted (optionsIn l) t (readColumn c .kind) kind,
     )
 
--- A column that is marked ascends, also from one row to a later one.
+-- A column that is marked ascends.
 pub marked-ascends : {t l : List ℕ} → Laid t l → (c : ℕ) → c < columns.count → {r : Bool} → r ≡ isMarked l c → r ≡ true → Ascends (cell t l c) (rowsAt l c)
 marked-ascends {t} {l} laid c k e m =
     let both : T (isMarked l c) = rw (sym e ∙ m) tt in
     let is = eqb→eq c columns.methodList (and-left (eqb c columns.methodList) _ both) in
     let mark = eqb→eq (getD l columns.mark 0) 1 (and-right (eqb c columns.methodList) _ both) in
     subst (λ (x : ℕ). Ascends (cell t l x) (rowsAt l x)) (sym is) (laid .marked mark)
-
-pub ascending : (f : ℕ → ℕ) (n : ℕ) → Ascends f n → (i d : ℕ) → i + d < n → f i ≤ f (i + d)
-ascending f n a i zero k =
-    let same : f (i + 0) ≡ f i = ap f (omega arith) in
-    omega arith
-ascending f n a i (suc d) k =
-    let up = ascending f n a i d (omega arith) in
-    let one : i + d + 1 ≡ i + suc d = omega arith in
-    let next : f (i + d + 1) ≡ f (i + suc d) = ap f one in
-    omega (arith, a (i + d) (omega arith))
 
 -- A number is at most another, or greater.
 pub le-or-lt : (m n : ℕ) → (m ≤ n) ⊎ (n < m)
