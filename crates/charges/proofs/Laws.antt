@@ -17,7 +17,7 @@ use Rattle.record.specs.View.{View}
 use Rattle.record.specs.Names.{env, classGenerics, baseSteps}
 use Rattle.record.specs.Methods.{leftAfter, stepsIn}
 use Rattle.record.specs.Answers.{_⟫_, theClass, theMethod, Numbered}
-use Rattle.record.specs.Answers.{NameCall, ClassName, GenericName, BaseName, MethodName, MethodGenericName, ReturnType, ParameterType, ParameterName}
+use Rattle.record.specs.Answers.{NameCall, ClassName, GenericName, BaseName, MethodName, MethodGenericName, ReturnType, ParameterType, ParameterName, ModuleName, ModuleRefName, AssemblyName, AssemblyCulture, AssemblyRefName, AssemblyRefKey, ConstantValue, Typelib}
 use Rattle.rows.specs.Columns as columns
 use Rattle.rows.specs.Layout.{Laid, rowsAt, isMarked, viewIn}
 use Rattle.passing.specs.Passing.{SpecsWithin}
@@ -129,3 +129,11 @@ module _ {t l : List ℕ} (laid : Laid t l) (strings heap : List ℕ)
   all-fit (ReturnType c m) = method-fits c m
   all-fit (ParameterType c m p) = method-fits c m
   all-fit (ParameterName c m p) = method-fits c m
+  all-fit ModuleName = nothing-over
+  all-fit (ModuleRefName i) = nothing-over
+  all-fit AssemblyName = nothing-over
+  all-fit AssemblyCulture = nothing-over
+  all-fit (AssemblyRefName i) = nothing-over
+  all-fit (AssemblyRefKey i) = nothing-over
+  all-fit (ConstantValue i) = nothing-over
+  all-fit Typelib = nothing-over

@@ -6,7 +6,7 @@ use Rattle.buffers.specs.Texts.{Text}
 use Rattle.buffers.specs.Replies.{Answer, refusedBy}
 use Rattle.buffers.specs.declared.Refusal.the-variants.{NoSuchRow, TooManySteps}
 use Rattle.record.specs.View.{View}
-use Rattle.record.specs.Answers.{NameCall, ClassName, GenericName, BaseName, MethodName, MethodGenericName, ReturnType, ParameterType, ParameterName, nameAnswer}
+use Rattle.record.specs.Answers.{NameCall, ClassName, GenericName, BaseName, MethodName, MethodGenericName, ReturnType, ParameterType, ParameterName, ModuleName, ModuleRefName, AssemblyName, AssemblyCulture, AssemblyRefName, AssemblyRefKey, ConstantValue, Typelib, nameAnswer}
 use Rattle.record.specs.Allowance.{nameWork, isOver}
 
 -- The first line of those that count the same: a class's first base type, and a method's return type.
@@ -19,6 +19,14 @@ comesFirst (MethodGenericName c m g) = false
 comesFirst (ReturnType c m) = true
 comesFirst (ParameterType c m p) = false
 comesFirst (ParameterName c m p) = false
+comesFirst ModuleName = false
+comesFirst (ModuleRefName i) = false
+comesFirst AssemblyName = false
+comesFirst AssemblyCulture = false
+comesFirst (AssemblyRefName i) = false
+comesFirst (AssemblyRefKey i) = false
+comesFirst (ConstantValue i) = false
+comesFirst Typelib = false
 
 -- What is shown of a call that counts more: 11 in the first line, and no others.
 abbrev pub beyond : Bool → Answer Text

@@ -20,7 +20,7 @@ use Rattle.header.specs.declared.Options.{Options}
 use Rattle.header.specs.declared.Opened.the-variants.{Refused, Ready}
 use Rattle.tables.specs.Extents.{walkBy}
 use Rattle.record.specs.View.{View, view, viewOf}
-use Rattle.record.specs.Answers.{walkAnswer, NumberCall, ClassCount, ClassFlags, ClassPacking, ClassSize, MethodFlags, numberAnswer, NameCall, ClassName, GenericName, BaseName, MethodName, MethodGenericName, ReturnType, ParameterType, ParameterName, nameAnswer}
+use Rattle.record.specs.Answers.{walkAnswer, NumberCall, ClassCount, ClassFlags, ClassPacking, ClassSize, MethodFlags, numberAnswer, NameCall, ClassName, GenericName, BaseName, MethodName, MethodGenericName, ReturnType, ParameterType, ParameterName, ModuleName, ModuleRefName, AssemblyName, AssemblyCulture, AssemblyRefName, AssemblyRefKey, ConstantValue, Typelib, nameAnswer}
 use Rattle.record.proofs.Laws.{opening-first}
 use Rattle.record.specs.Allowance.{baseWork, methodWork, nameWork, countOf, isOver}
 use Rattle.lines.specs.Lines.{answerLine, orKeyLine, missingLine, nameLine, goesOn, refusedLine}
@@ -93,6 +93,14 @@ module _ (o : Options) (t strings blob : List ℕ) {why : Refusal} (e : opened o
   counts-nothing (ReturnType c m) = rw e
   counts-nothing (ParameterType c m p) = rw e
   counts-nothing (ParameterName c m p) = rw e
+  counts-nothing ModuleName = refl
+  counts-nothing (ModuleRefName i) = refl
+  counts-nothing AssemblyName = refl
+  counts-nothing AssemblyCulture = refl
+  counts-nothing (AssemblyRefName i) = refl
+  counts-nothing (AssemblyRefKey i) = refl
+  counts-nothing (ConstantValue i) = refl
+  counts-nothing Typelib = refl
 
   is-plain : (call : NameCall) → listed call v ≡ nameAnswer call v
   unfolding isOver

@@ -19,8 +19,8 @@ use Rattle.record.specs.View.{View}
 use Rattle.record.specs.Names.{baseSteps}
 use Rattle.record.specs.Methods.{leftAfter, stepsIn}
 use Rattle.record.specs.Answers.{_⟫_, item, theClass, theMethod, Numbered, baseCount, parameterCount, baseName, returnType, parameterType, parameterName}
-use Rattle.record.specs.Answers.{NumberCall, ClassCount, ClassFlags, ClassPacking, ClassSize, GenericCount, BaseCount, MethodCount, MethodFlags, MethodGenericCount, ParameterCount, numberAnswer}
-use Rattle.record.specs.Answers.{NameCall, ClassName, GenericName, BaseName, MethodName, MethodGenericName, ReturnType, ParameterType, ParameterName, nameAnswer}
+use Rattle.record.specs.Answers.{NumberCall, ClassCount, ClassFlags, ClassPacking, ClassSize, GenericCount, BaseCount, MethodCount, MethodFlags, MethodGenericCount, ParameterCount, ModuleRefCount, AssemblyVersion, AssemblyRefCount, AssemblyRefVersion, ConstantCount, numberAnswer}
+use Rattle.record.specs.Answers.{NameCall, ClassName, GenericName, BaseName, MethodName, MethodGenericName, ReturnType, ParameterType, ParameterName, ModuleName, ModuleRefName, AssemblyName, AssemblyCulture, AssemblyRefName, AssemblyRefKey, ConstantValue, Typelib, nameAnswer}
 use Rattle.record.specs.Allowance.{baseWork, methodWork, numberWork, nameWork, countOf, isPaid, cost, charge, Exactly, SpentExactly, RaisingKeeps}
 use Rattle.record.specs.Allowance.{Charged, numberCharged, nameCharged, NumberedCharged, NamedCharged}
 use Rattle.record.proofs.Laws.{opening-first}
@@ -90,6 +90,11 @@ module _ (v : View) {why : Refusal} (e : v .header .answer ≡ opened.Refused wh
   free-number (MethodFlags c m) = refl
   free-number (MethodGenericCount c m) = refl
   free-number (ParameterCount c m) = free-method c m
+  free-number ModuleRefCount = refl
+  free-number (AssemblyVersion p) = refl
+  free-number AssemblyRefCount = refl
+  free-number (AssemblyRefVersion i p) = refl
+  free-number ConstantCount = refl
 
   free-name : (call : NameCall) → countOf (nameWork call v) ≡ 0
   free-name (ClassName c) = refl
@@ -100,6 +105,14 @@ module _ (v : View) {why : Refusal} (e : v .header .answer ≡ opened.Refused wh
   free-name (ReturnType c m) = free-method c m
   free-name (ParameterType c m p) = free-method c m
   free-name (ParameterName c m p) = free-method c m
+  free-name ModuleName = refl
+  free-name (ModuleRefName i) = refl
+  free-name AssemblyName = refl
+  free-name AssemblyCulture = refl
+  free-name (AssemblyRefName i) = refl
+  free-name (AssemblyRefKey i) = refl
+  free-name (ConstantValue i) = refl
+  free-name Typelib = refl
 
   pub number-unopened : (call : NumberCall) (allowance : ℕ) → numberCharged call v allowance ≡ record { answer = refusedBy why; left = allowance }
   number-unopened call allowance =
@@ -147,6 +160,14 @@ module _ (v : View) (w : Refused) where
   name-refused (ReturnType c m) e = of-method c m (λ k. nameOr5 (k .returns)) e
   name-refused (ParameterType c m p) e = ap (λ a. a ⟫ (λ k. nameOr5 (k .type))) (of-method c m (λ k. item (k .parameters) p) e)
   name-refused (ParameterName c m p) e = ap (λ a. a ⟫ (λ k. nameOr5 (k .name))) (of-method c m (λ k. item (k .parameters) p) e)
+  name-refused ModuleName e = absurd (no-value e)
+  name-refused (ModuleRefName i) e = absurd (no-value e)
+  name-refused AssemblyName e = absurd (no-value e)
+  name-refused AssemblyCulture e = absurd (no-value e)
+  name-refused (AssemblyRefName i) e = absurd (no-value e)
+  name-refused (AssemblyRefKey i) e = absurd (no-value e)
+  name-refused (ConstantValue i) e = absurd (no-value e)
+  name-refused Typelib e = absurd (no-value e)
 
   number-refused : (call : NumberCall) → numberWork call v ≡ refused w → numberAnswer call v ≡ refused w
   unfolding baseCount parameterCount
@@ -160,6 +181,11 @@ module _ (v : View) (w : Refused) where
   number-refused (MethodFlags c m) e = absurd (no-value e)
   number-refused (MethodGenericCount c m) e = absurd (no-value e)
   number-refused (ParameterCount c m) e = of-method c m (λ k. value (length (k .parameters))) e
+  number-refused ModuleRefCount e = absurd (no-value e)
+  number-refused (AssemblyVersion p) e = absurd (no-value e)
+  number-refused AssemblyRefCount e = absurd (no-value e)
+  number-refused (AssemblyRefVersion i p) e = absurd (no-value e)
+  number-refused ConstantCount e = absurd (no-value e)
 
 exactly : {A : Type 0} (work : Answer ℕ) (a : Answer A) (allowance : ℕ) → ((w : Refused) → work ≡ refused w → a ≡ refused w) → Exactly work a allowance
 exactly work a allowance same = record {

@@ -2,6 +2,7 @@
 use mathlib.Core.Path.{_≡_, sym, ap, subst, _∙_}
 use Rattle.record.specs.View.{View, view}
 use Rattle.record.specs.Record.{classRecord}
+use Rattle.record.specs.References.{references}
 use Rattle.buffers.specs.Replies.{Named}
 use Rattle.buffers.proofs.Replies.{reply-same, named-same}
 use Rattle.record.specs.Answers.{walkAnswer}
@@ -15,6 +16,7 @@ pub survives : (v w : View) → w ≡ v → Survives v w
 survives v w e =
     record {
       record-same = ap classRecord e;
+      references-same = ap references e;
       walk-same = ap walkAnswer e;
       numbers-same = λ call allowance r r′ left left′ x y. (
         reply-same r′ r (y .says ∙ ap (λ u. numberCharged call u allowance .answer) e ∙ sym (x .says)),

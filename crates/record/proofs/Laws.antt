@@ -18,7 +18,7 @@ use Rattle.record.specs.View.{View, view, viewOf, isSide, otherRow, View
 use Rattle.record.specs.Names.{classes}
 use Rattle.record.specs.Record.{Class, class, classRecord}
 use Rattle.buffers.specs.Replies.{refusedBy, value}
-use Rattle.record.specs.Answers.{_⟫_, ready, orNoRow, item, walkAnswer, theClass, NumberCall, NameCall, ClassCount, ClassFlags, ClassPacking, ClassSize, GenericCount, BaseCount, MethodCount, MethodFlags, MethodGenericCount, ParameterCount, ClassName, GenericName, BaseName, MethodName, MethodGenericName, ReturnType, ParameterType, ParameterName, classCount, classFlags, classPacking, classSize, genericCount, baseCount, methodCount, methodFlags, methodGenericCount, parameterCount, className, genericName, baseName, methodName, methodGenericName, returnType, parameterType, parameterName, numberAnswer, nameAnswer, OpeningFirst}
+use Rattle.record.specs.Answers.{_⟫_, ready, orNoRow, item, walkAnswer, theClass, NumberCall, NameCall, ClassCount, ClassFlags, ClassPacking, ClassSize, GenericCount, BaseCount, MethodCount, MethodFlags, MethodGenericCount, ParameterCount, ClassName, GenericName, BaseName, MethodName, MethodGenericName, ReturnType, ParameterType, ParameterName, ModuleRefCount, AssemblyVersion, AssemblyRefCount, AssemblyRefVersion, ConstantCount, ModuleName, ModuleRefName, AssemblyName, AssemblyCulture, AssemblyRefName, AssemblyRefKey, ConstantValue, Typelib, classCount, classFlags, classPacking, classSize, genericCount, baseCount, methodCount, methodFlags, methodGenericCount, parameterCount, className, genericName, baseName, methodName, methodGenericName, returnType, parameterType, parameterName, moduleRefCount, assemblyVersion, assemblyRefCount, assemblyRefVersion, constantCount, moduleName, moduleRefName, assemblyName, assemblyCulture, assemblyRefName, assemblyRefKey, constantValue, typelib, numberAnswer, nameAnswer, OpeningFirst}
 
 -- What the options say of an opened stream, they say by the index sizes.
 module _ (o p : Options) (h : Header) (t : List ℕ) (e : sizesIn o h ≡ sizesIn p h) where
@@ -60,7 +60,7 @@ class-none v c r h =
     ∙ ap orNoRow (tabulate-past (class v) 0 (classes v) c h)
 
 pub opening-first : OpeningFirst
-unfolding classCount classFlags classPacking classSize genericCount baseCount methodCount methodFlags methodGenericCount parameterCount className genericName baseName methodName methodGenericName returnType parameterType parameterName
+unfolding classCount classFlags classPacking classSize genericCount baseCount methodCount methodFlags methodGenericCount parameterCount className genericName baseName methodName methodGenericName returnType parameterType parameterName moduleRefCount assemblyVersion assemblyRefCount assemblyRefVersion constantCount moduleName moduleRefName assemblyName assemblyCulture assemblyRefName assemblyRefKey constantValue typelib
 opening-first v why e = (numbers, names)
   where
     numbers : (call : NumberCall) → numberAnswer call v ≡ refusedBy why
@@ -74,6 +74,11 @@ opening-first v why e = (numbers, names)
     numbers (MethodFlags c m) = rw e refl
     numbers (MethodGenericCount c m) = rw e refl
     numbers (ParameterCount c m) = rw e refl
+    numbers ModuleRefCount = rw e refl
+    numbers (AssemblyVersion p) = rw e refl
+    numbers AssemblyRefCount = rw e refl
+    numbers (AssemblyRefVersion i p) = rw e refl
+    numbers ConstantCount = rw e refl
 
     names : (call : NameCall) → nameAnswer call v ≡ refusedBy why
     names (ClassName c) = rw e refl
@@ -84,3 +89,11 @@ opening-first v why e = (numbers, names)
     names (ReturnType c m) = rw e refl
     names (ParameterType c m p) = rw e refl
     names (ParameterName c m p) = rw e refl
+    names ModuleName = rw e refl
+    names (ModuleRefName i) = rw e refl
+    names AssemblyName = rw e refl
+    names AssemblyCulture = rw e refl
+    names (AssemblyRefName i) = rw e refl
+    names (AssemblyRefKey i) = rw e refl
+    names (ConstantValue i) = rw e refl
+    names Typelib = rw e refl

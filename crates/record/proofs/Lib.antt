@@ -12,6 +12,7 @@ pub mod Swap
 pub mod Demand
 pub mod Read
 pub mod Cases
+pub mod ReferenceCases
 pub mod Example
 pub mod Look
 pub mod Reasons

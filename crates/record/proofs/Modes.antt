@@ -22,9 +22,10 @@ use Rattle.record.specs.Names.{indexed, numberIn, nameIn, classes, class
 use Rattle.record.specs.Methods as methods
 use Rattle.record.specs.Methods.{leftAfter, signatureBlob, reading, readBy, readSteps, signatureIn, stepsIn, paramText}
 use Rattle.record.specs.Record.{parametersFrom, method, class, classRecord}
+use Rattle.record.specs.References.{entireRows, entireTable, moduleOf, assemblyIn, assemblyOf, moduleRefsOf, assemblyRefIn, assemblyRefsOf, constantText, constantIn, constantsOf, tagged, attributeName, isTypelib, typelibIn, typelibOf, references}
 use Rattle.record.specs.Answers.{_⟫_, ready, item, theMethod}
-use Rattle.record.specs.Answers.{NumberCall, ClassCount, ClassFlags, ClassPacking, ClassSize, GenericCount, BaseCount, MethodCount, MethodFlags, MethodGenericCount, ParameterCount, classCount, classFlags, classPacking, classSize, genericCount, baseCount, methodCount, methodFlags, methodGenericCount, parameterCount}
-use Rattle.record.specs.Answers.{NameCall, ClassName, GenericName, BaseName, MethodName, MethodGenericName, ReturnType, ParameterType, ParameterName, className, genericName, baseName, methodName, methodGenericName, returnType, parameterType, parameterName}
+use Rattle.record.specs.Answers.{NumberCall, ClassCount, ClassFlags, ClassPacking, ClassSize, GenericCount, BaseCount, MethodCount, MethodFlags, MethodGenericCount, ParameterCount, ModuleRefCount, AssemblyVersion, AssemblyRefCount, AssemblyRefVersion, ConstantCount, classCount, classFlags, classPacking, classSize, genericCount, baseCount, methodCount, methodFlags, methodGenericCount, parameterCount, moduleRefCount, assemblyVersion, assemblyRefCount, assemblyRefVersion, constantCount}
+use Rattle.record.specs.Answers.{NameCall, ClassName, GenericName, BaseName, MethodName, MethodGenericName, ReturnType, ParameterType, ParameterName, ModuleName, ModuleRefName, AssemblyName, AssemblyCulture, AssemblyRefName, AssemblyRefKey, ConstantValue, Typelib, className, genericName, baseName, methodName, methodGenericName, returnType, parameterType, parameterName, moduleName, moduleRefName, assemblyName, assemblyCulture, assemblyRefName, assemblyRefKey, constantValue, typelib}
 use Rattle.record.specs.Allowance.{baseWork, methodWork, numberCharged, nameCharged}
 use Rattle.record.specs.Modes.{InOrder, Agree, ModesAgree}
 use Rattle.record.proofs.Readers.{signature-alone, steps-alone}
@@ -86,6 +87,10 @@ module _ (v : View) where
   parameters-same m i [] = refl
   parameters-same m i (t ∷ l) = rw (param-same i (indexed v param (numberIn v columns.paramList (methodRow v m) + i)), parameters-same m (i + 1) l)
 
+  references-same : references new ≡ references old
+  unfolding references moduleOf moduleRefsOf assemblyOf assemblyIn assemblyRefsOf assemblyRefIn constantsOf constantIn constantText typelibOf typelibIn isTypelib attributeName tagged entireTable entireRows
+  references-same = refl
+
   module _ (order : InOrder old) where
     module _ (c m : ℕ) (h : c < classes old) (lo : leftAfter old c ≤ m) (hi : m < leftAfter old (c + 1)) where
       signature-same : signatureIn new c m ≡ signatureIn old c m
@@ -123,7 +128,7 @@ module _ (v : View) where
     method-work c m = rw record-same (of-listed old c m (λ h k. steps-same c (leftAfter old c + m) h (omega arith) k))
 
     numbers-same : (call : NumberCall) (allowance : ℕ) → numberCharged call new allowance ≡ numberCharged call old allowance
-    unfolding classCount classFlags classPacking classSize genericCount baseCount methodCount methodFlags methodGenericCount parameterCount
+    unfolding classCount classFlags classPacking classSize genericCount baseCount methodCount methodFlags methodGenericCount parameterCount moduleRefCount assemblyVersion assemblyRefCount assemblyRefVersion constantCount
     numbers-same ClassCount n = rw record-same
     numbers-same (ClassFlags c) n = rw record-same
     numbers-same (ClassPacking c) n = rw record-same
@@ -134,9 +139,14 @@ module _ (v : View) where
     numbers-same (MethodFlags c m) n = rw record-same
     numbers-same (MethodGenericCount c m) n = rw record-same
     numbers-same (ParameterCount c m) n = rw (method-work c m, record-same)
+    numbers-same ModuleRefCount n = rw references-same
+    numbers-same (AssemblyVersion p) n = rw references-same
+    numbers-same AssemblyRefCount n = rw references-same
+    numbers-same (AssemblyRefVersion i p) n = rw references-same
+    numbers-same ConstantCount n = rw references-same
 
     names-same : (call : NameCall) (allowance : ℕ) → nameCharged call new allowance ≡ nameCharged call old allowance
-    unfolding className genericName baseName methodName methodGenericName returnType parameterType parameterName
+    unfolding className genericName baseName methodName methodGenericName returnType parameterType parameterName moduleName moduleRefName assemblyName assemblyCulture assemblyRefName assemblyRefKey constantValue typelib
     names-same (ClassName c) n = rw record-same
     names-same (GenericName c g) n = rw record-same
     names-same (BaseName c b) n = rw (base-work c, record-same)
@@ -145,6 +155,14 @@ module _ (v : View) where
     names-same (ReturnType c m) n = rw (method-work c m, record-same)
     names-same (ParameterType c m p) n = rw (method-work c m, record-same)
     names-same (ParameterName c m p) n = rw (method-work c m, record-same)
+    names-same ModuleName n = rw references-same
+    names-same (ModuleRefName i) n = rw references-same
+    names-same AssemblyName n = rw references-same
+    names-same AssemblyCulture n = rw references-same
+    names-same (AssemblyRefName i) n = rw references-same
+    names-same (AssemblyRefKey i) n = rw references-same
+    names-same (ConstantValue i) n = rw references-same
+    names-same Typelib n = rw references-same
 
     agree : Agree old new
     agree = record { record-same = record-same; walk-same = refl; numbers-same = numbers-same; names-same = names-same }

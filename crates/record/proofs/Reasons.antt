@@ -38,7 +38,8 @@ use Rattle.record.specs.View.{View, view, viewOf, otherRow, sideRow, sid
 use Rattle.record.specs.Names.{nameIn, named, rowsIn, classes, classIndex, classRow, methodIndex, methodRow, classFullName, classNamed}
 use Rattle.record.specs.Methods.{methodLists, leftAfter}
 use Rattle.record.specs.Record.{Method, Class, method, class, classRecord}
-use Rattle.record.specs.Answers.{_⟫_, ready, orNoRow, item, walkAnswer, theClasses, theClass, theLayout, theMethod, theParameter, NumberCall, NameCall, ClassCount, ClassFlags, ClassPacking, ClassSize, GenericCount, BaseCount, MethodCount, MethodFlags, MethodGenericCount, ParameterCount, ClassName, GenericName, BaseName, MethodName, MethodGenericName, ReturnType, ParameterType, ParameterName, classCount, classFlags, classPacking, classSize, genericCount, baseCount, methodCount, methodFlags, methodGenericCount, parameterCount, className, genericName, baseName, methodName, methodGenericName, returnType, parameterType, parameterName, numberAnswer, nameAnswer}
+use Rattle.record.specs.References.{References, references}
+use Rattle.record.specs.Answers.{_⟫_, ready, orNoRow, item, walkAnswer, theClasses, theClass, theLayout, theMethod, theParameter, theReferences, theModuleRefs, theAssembly, theAssemblyRefs, theAssemblyRef, theConstants, NumberCall, NameCall, ClassCount, ClassFlags, ClassPacking, ClassSize, GenericCount, BaseCount, MethodCount, MethodFlags, MethodGenericCount, ParameterCount, ClassName, GenericName, BaseName, MethodName, MethodGenericName, ReturnType, ParameterType, ParameterName, ModuleRefCount, AssemblyVersion, AssemblyRefCount, AssemblyRefVersion, ConstantCount, ModuleName, ModuleRefName, AssemblyName, AssemblyCulture, AssemblyRefName, AssemblyRefKey, ConstantValue, Typelib, classCount, classFlags, classPacking, classSize, genericCount, baseCount, methodCount, methodFlags, methodGenericCount, parameterCount, className, genericName, baseName, methodName, methodGenericName, returnType, parameterType, parameterName, moduleRefCount, assemblyVersion, assemblyRefCount, assemblyRefVersion, constantCount, moduleName, moduleRefName, assemblyName, assemblyCulture, assemblyRefName, assemblyRefKey, constantValue, typelib, numberAnswer, nameAnswer}
 use Rattle.record.specs.Cases.{wholeTables, wholeStrings}
 use Rattle.record.specs.Reasons.{StringReasons, Told, LookupReasons, tellsReason, ReasonTold, ReasonUntold, OwnReason, NamesAgree, SmallestReasons}
 use Rattle.record.proofs.Read.{class-row, method-row, left-le}
@@ -132,8 +133,18 @@ module _ (v : View) (opening : Quiet (ready (v .header .answer))) where
   parameter-quiet c m p =
       says Quiet (λ w e. e) (theMethod v c m) (λ k. item (k .parameters) p) (method-quiet c m) (λ k. item-quiet (k .parameters) p)
 
+  references-quiet : Quiet (theReferences v)
+  references-quiet = says Quiet (λ w e. e) (ready (v .header .answer)) (λ _. value (references v)) opening (λ _. tt)
+
+  -- One of the references that may not be there.
+  set-quiet : {A : Type 0} (f : References → Option A) → Quiet (theReferences v ⟫ (λ r. orNoRow (f r)))
+  set-quiet f = says Quiet (λ w e. e) (theReferences v) (λ r. orNoRow (f r)) references-quiet (λ r. row-quiet (f r))
+
+  assembly-ref-quiet : (i : ℕ) → Quiet (theAssemblyRef v i)
+  assembly-ref-quiet i = says Quiet (λ w e. e) (theAssemblyRefs v) (λ l. item l i) (set-quiet (λ r. r .assemblyRefs)) (λ l. item-quiet l i)
+
   numbers-quiet : (call : NumberCall) → Quiet (numberAnswer call v)
-  unfolding classCount classFlags classPacking classSize genericCount baseCount methodCount methodFlags methodGenericCount parameterCount
+  unfolding classCount classFlags classPacking classSize genericCount baseCount methodCount methodFlags methodGenericCount parameterCount moduleRefCount assemblyVersion assemblyRefCount assemblyRefVersion constantCount
   numbers-quiet ClassCount = says Quiet (λ w e. e) (theClasses v) _ classes-quiet (λ _. tt)
   numbers-quiet (ClassFlags c) = says Quiet (λ w e. e) (theClass v c) _ (class-quiet c) (λ _. tt)
   numbers-quiet (ClassPacking c) = says Quiet (λ w e. e) (theLayout v c) _ (layout-quiet c) (λ _. tt)
@@ -144,6 +155,11 @@ module _ (v : View) (opening : Quiet (ready (v .header .answer))) where
   numbers-quiet (MethodFlags c m) = says Quiet (λ w e. e) (theMethod v c m) _ (method-quiet c m) (λ _. tt)
   numbers-quiet (MethodGenericCount c m) = says Quiet (λ w e. e) (theMethod v c m) _ (method-quiet c m) (λ _. tt)
   numbers-quiet (ParameterCount c m) = says Quiet (λ w e. e) (theMethod v c m) _ (method-quiet c m) (λ _. tt)
+  numbers-quiet ModuleRefCount = says Quiet (λ w e. e) (theModuleRefs v) _ (set-quiet (λ r. r .moduleRefs)) (λ _. tt)
+  numbers-quiet (AssemblyVersion p) = says Quiet (λ w e. e) (theAssembly v) _ (set-quiet (λ r. r .assembly)) (λ a. item-quiet (a .version) p)
+  numbers-quiet AssemblyRefCount = says Quiet (λ w e. e) (theAssemblyRefs v) _ (set-quiet (λ r. r .assemblyRefs)) (λ _. tt)
+  numbers-quiet (AssemblyRefVersion i p) = says Quiet (λ w e. e) (theAssemblyRef v i) _ (assembly-ref-quiet i) (λ a. item-quiet (a .version) p)
+  numbers-quiet ConstantCount = says Quiet (λ w e. e) (theConstants v) _ (set-quiet (λ r. r .constants)) (λ _. tt)
 
 quiet-silent : {A : Type 0} (a : Answer A) → Quiet a → Silent a
 quiet-silent (refused w) e = e .1
@@ -153,6 +169,11 @@ quiet-silent (value x) e = tt
 text-silent : (o : Option Text) → Silent (nameOr5 o)
 text-silent none = refl
 text-silent (some t) = tt
+
+-- Nor does one that is not there.
+set-silent : (o : Option (Option Text)) → Silent (orNoRow o ⟫ nameOr5)
+set-silent none = refl
+set-silent (some o) = text-silent o
 
 -- A string that was looked up tells the reason.
 name-clear : (s : List ℕ) (i : ℕ) → Clear (nameOrWhy (name s i))
@@ -270,9 +291,17 @@ module _ (o : Options) (t strings blob : List ℕ) where
   names-clear (ReturnType c m) e = absurd (true≢false (sym e))
   names-clear (ParameterType c m p) e = absurd (true≢false (sym e))
   names-clear (ParameterName c m p) e = absurd (true≢false (sym e))
+  names-clear ModuleName e = absurd (true≢false (sym e))
+  names-clear (ModuleRefName i) e = absurd (true≢false (sym e))
+  names-clear AssemblyName e = absurd (true≢false (sym e))
+  names-clear AssemblyCulture e = absurd (true≢false (sym e))
+  names-clear (AssemblyRefName i) e = absurd (true≢false (sym e))
+  names-clear (AssemblyRefKey i) e = absurd (true≢false (sym e))
+  names-clear (ConstantValue i) e = absurd (true≢false (sym e))
+  names-clear Typelib e = absurd (true≢false (sym e))
 
   names-silent : (call : NameCall) → tellsReason call ≡ false → Silent (nameAnswer call v)
-  unfolding baseName returnType parameterType parameterName
+  unfolding baseName returnType parameterType parameterName moduleName moduleRefName assemblyName assemblyCulture assemblyRefName assemblyRefKey constantValue typelib
   names-silent (ClassName c) e = absurd (true≢false e)
   names-silent (GenericName c g) e = absurd (true≢false e)
   names-silent (BaseName c b) e = says Silent (λ w q. q .1) (theClass v c) _ (class-quiet v opening c) (λ k. quiet-silent (item (k .bases) b) (item-quiet (k .bases) b))
@@ -281,6 +310,14 @@ module _ (o : Options) (t strings blob : List ℕ) where
   names-silent (ReturnType c m) e = says Silent (λ w q. q .1) (theMethod v c m) _ (method-quiet v opening c m) (λ k. text-silent (k .returns))
   names-silent (ParameterType c m p) e = says Silent (λ w q. q .1) (theParameter v c m p) _ (parameter-quiet v opening c m p) (λ k. text-silent (k .type))
   names-silent (ParameterName c m p) e = says Silent (λ w q. q .1) (theParameter v c m p) _ (parameter-quiet v opening c m p) (λ k. text-silent (k .name))
+  names-silent ModuleName e = says Silent (λ w q. q .1) (theReferences v) _ (references-quiet v opening) (λ r. set-silent (r .moduleName))
+  names-silent (ModuleRefName i) e = says Silent (λ w q. q .1) (theModuleRefs v) _ (set-quiet v opening (λ r. r .moduleRefs)) (λ l. set-silent (getElem? l i))
+  names-silent AssemblyName e = says Silent (λ w q. q .1) (theAssembly v) _ (set-quiet v opening (λ r. r .assembly)) (λ a. text-silent (a .name))
+  names-silent AssemblyCulture e = says Silent (λ w q. q .1) (theAssembly v) _ (set-quiet v opening (λ r. r .assembly)) (λ a. text-silent (a .culture))
+  names-silent (AssemblyRefName i) e = says Silent (λ w q. q .1) (theAssemblyRef v i) _ (assembly-ref-quiet v opening i) (λ a. text-silent (a .name))
+  names-silent (AssemblyRefKey i) e = says Silent (λ w q. q .1) (theAssemblyRef v i) _ (assembly-ref-quiet v opening i) (λ a. text-silent (a .key))
+  names-silent (ConstantValue i) e = says Silent (λ w q. q .1) (theConstants v) _ (set-quiet v opening (λ r. r .constants)) (λ l. set-silent (getElem? l i))
+  names-silent Typelib e = says Silent (λ w q. q .1) (theReferences v) _ (references-quiet v opening) (λ r. set-silent (r .typelib))
 
   walk-quiet : Quiet (walkAnswer v .stop)
   walk-quiet = stopped (v .header) (v .sizes) (v .size) opening

@@ -15,8 +15,8 @@ use Rattle.record.specs.View.{View}
 use Rattle.record.specs.Names.{baseSteps}
 use Rattle.record.specs.Methods.{leftAfter, stepsIn}
 use Rattle.record.specs.Answers.{_⟫_, theClass, theMethod, Numbered}
-use Rattle.record.specs.Answers.{NumberCall, ClassCount, ClassFlags, ClassPacking, ClassSize, GenericCount, BaseCount, MethodCount, MethodFlags, MethodGenericCount, ParameterCount, numberAnswer}
-use Rattle.record.specs.Answers.{NameCall, ClassName, GenericName, BaseName, MethodName, MethodGenericName, ReturnType, ParameterType, ParameterName, nameAnswer}
+use Rattle.record.specs.Answers.{NumberCall, ClassCount, ClassFlags, ClassPacking, ClassSize, GenericCount, BaseCount, MethodCount, MethodFlags, MethodGenericCount, ParameterCount, ModuleRefCount, AssemblyVersion, AssemblyRefCount, AssemblyRefVersion, ConstantCount, numberAnswer}
+use Rattle.record.specs.Answers.{NameCall, ClassName, GenericName, BaseName, MethodName, MethodGenericName, ReturnType, ParameterType, ParameterName, ModuleName, ModuleRefName, AssemblyName, AssemblyCulture, AssemblyRefName, AssemblyRefKey, ConstantValue, Typelib, nameAnswer}
 
 -- What a call for a base type, or for their number, counts: of a class that is there, all of its base types.
 unfoldable pub baseWork : View → ℕ → Answer ℕ
@@ -39,6 +39,11 @@ numberWork (MethodCount c) v = value 0
 numberWork (MethodFlags c m) v = value 0
 numberWork (MethodGenericCount c m) v = value 0
 numberWork (ParameterCount c m) v = methodWork v c m
+numberWork ModuleRefCount v = value 0
+numberWork (AssemblyVersion p) v = value 0
+numberWork AssemblyRefCount v = value 0
+numberWork (AssemblyRefVersion i p) v = value 0
+numberWork ConstantCount v = value 0
 
 abbrev pub nameWork : NameCall → View → Answer ℕ
 nameWork (ClassName c) v = value 0
@@ -49,6 +54,14 @@ nameWork (MethodGenericName c m g) v = value 0
 nameWork (ReturnType c m) v = methodWork v c m
 nameWork (ParameterType c m p) v = methodWork v c m
 nameWork (ParameterName c m p) v = methodWork v c m
+nameWork ModuleName v = value 0
+nameWork (ModuleRefName i) v = value 0
+nameWork AssemblyName v = value 0
+nameWork AssemblyCulture v = value 0
+nameWork (AssemblyRefName i) v = value 0
+nameWork (AssemblyRefKey i) v = value 0
+nameWork (ConstantValue i) v = value 0
+nameWork Typelib v = value 0
 
 -- An answer, and what is left of the allowance.
 pub record Charged (A : Type 0) : Type 0 where

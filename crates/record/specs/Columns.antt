@@ -1,9 +1,9 @@
--- The columns of the tables that the record reads (ECMA-335 II.22), by the index sizes and a row's bytes.
+-- The columns of the tables that the record and the references read (ECMA-335 II.22), by the index sizes and a row's bytes.
 use mathlib.Core.List.{List}
-use Prim.Native.Nat.{ℕ}
+use Prim.Native.Nat.{ℕ, _+_}
 use lib.ListN.{take, getD}
 use Rattle.numbers.specs.Fixed.{leAt}
-use Rattle.layouts.specs.Kinds.{typeRef, typeDef, methodDef, param, interfaceImpl, classLayout, typeSpec, nestedClass, genericParam}
+use Rattle.layouts.specs.Kinds.{theModule, typeRef, typeDef, methodDef, param, interfaceImpl, memberRef, constant, customAttribute, classLayout, moduleRef, typeSpec, assembly, assemblyRef, nestedClass, genericParam}
 use Rattle.layouts.specs.Columns.{Two, columnsOf, widthIn, sumOf}
 use Rattle.layouts.specs.declared.IndexSizes.{IndexSizes}
 
@@ -85,3 +85,52 @@ owner = column genericParam 2
 
 abbrev pub genericName : IndexSizes → List ℕ → ℕ
 genericName = column genericParam 3
+
+-- Module, II.22.30: Generation, Name, Mvid, EncId, EncBaseId.
+abbrev pub moduleName : IndexSizes → List ℕ → ℕ
+moduleName = column theModule 1
+
+-- MemberRef, II.22.25: Class, Name, Signature.
+abbrev pub memberClass : IndexSizes → List ℕ → ℕ
+memberClass = column memberRef 0
+
+-- Constant, II.22.9: Type, Parent, Value.
+abbrev pub constantType : IndexSizes → List ℕ → ℕ
+constantType = column constant 0
+
+abbrev pub constantValue : IndexSizes → List ℕ → ℕ
+constantValue = column constant 2
+
+-- CustomAttribute, II.22.10: Parent, Type, Value.
+abbrev pub attributeParent : IndexSizes → List ℕ → ℕ
+attributeParent = column customAttribute 0
+
+abbrev pub attributeType : IndexSizes → List ℕ → ℕ
+attributeType = column customAttribute 1
+
+abbrev pub attributeValue : IndexSizes → List ℕ → ℕ
+attributeValue = column customAttribute 2
+
+-- ModuleRef, II.22.31: Name.
+abbrev pub moduleRefName : IndexSizes → List ℕ → ℕ
+moduleRefName = column moduleRef 0
+
+-- Assembly, II.22.2: HashAlgId, MajorVersion, MinorVersion, BuildNumber, RevisionNumber, Flags, PublicKey, Name, Culture.
+abbrev pub assemblyVersion : ℕ → IndexSizes → List ℕ → ℕ
+assemblyVersion part = column assembly (1 + part)
+
+abbrev pub assemblyName : IndexSizes → List ℕ → ℕ
+assemblyName = column assembly 7
+
+abbrev pub assemblyCulture : IndexSizes → List ℕ → ℕ
+assemblyCulture = column assembly 8
+
+-- AssemblyRef, II.22.5: MajorVersion, MinorVersion, BuildNumber, RevisionNumber, Flags, PublicKeyOrToken, Name, Culture, HashValue.
+abbrev pub assemblyRefVersion : ℕ → IndexSizes → List ℕ → ℕ
+assemblyRefVersion part = column assemblyRef part
+
+abbrev pub assemblyRefKey : IndexSizes → List ℕ → ℕ
+assemblyRefKey = column assemblyRef 5
+
+abbrev pub assemblyRefName : IndexSizes → List ℕ → ℕ
+assemblyRefName = column assemblyRef 6

@@ -14,15 +14,17 @@ use Rattle.record.specs.View.{View, view, sideRow}
 use Rattle.header.specs.Stream.{opened}
 use Rattle.record.specs.Names.{classIndex}
 use Rattle.record.specs.Record.{class, classRecord}
+use Rattle.record.specs.References.{references}
 use Rattle.record.specs.Answers.{walkAnswer, NumberCall, NameCall}
 use Rattle.record.specs.Allowance.{numberCharged, nameCharged, NumberedCharged, NamedCharged}
 use Rattle.record.specs.Rearrangement.{Rearranged, ThreeRearranged, Swapped}
 
--- Two views give the same class record, the same walk and the same answer to every call, asked alike: with the same arguments, what the
--- allowance holds before among them, and with buffers of equal length, however filled before. A refusal is an answer, and what is left of
--- the allowance is part of one.
+-- Two views give the same class record, the same references, the same walk and the same answer to every call, asked alike: with the same
+-- arguments, what the allowance holds before among them, and with buffers of equal length, however filled before. A refusal is an answer,
+-- and what is left of the allowance is part of one.
 pub record Survives (v w : View) : Type 1 where
   pub record-same : classRecord w ≡ classRecord v
+  pub references-same : references w ≡ references v
   pub walk-same : walkAnswer w ≡ walkAnswer v
   pub numbers-same :
       (call : NumberCall) (allowance : ℕ) (r r′ : Reply) (left left′ : ℕ)

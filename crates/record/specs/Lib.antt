@@ -10,10 +10,12 @@ pub mod Types
 pub mod Names
 pub mod Methods
 pub mod Record
+pub mod References
 pub mod Answers
 pub mod Allowance
 pub mod Modes
 pub mod Cases
+pub mod ReferenceCases
 pub mod Rearrangement
 pub mod Demand
 pub mod Example

@@ -35,11 +35,18 @@ indexed v k r = cond (eqb r 0) none (v .row k (r - 1))
 abbrev pub numberIn : View → (IndexSizes → List ℕ → ℕ) → Option (List ℕ) → ℕ
 numberIn v col r = orDefault 0 (over (col (sizesOf v)) r)
 
--- The string that a column of a row finds: missing where the row is.
-abbrev pub stringIn : View → (IndexSizes → List ℕ → ℕ) → Option (List ℕ) → Option Text
-stringIn v col r = andThen r (λ bytes. string (v .strings) (col (sizesOf v) bytes))
+-- The string and the blob that a column of a row finds.
+abbrev pub stringOf : View → (IndexSizes → List ℕ → ℕ) → List ℕ → Option Text
+stringOf v col bytes = string (v .strings) (col (sizesOf v) bytes)
 
--- The same with the reason where the string is missing; a row that is not there tells none.
+abbrev pub blobOf : View → (IndexSizes → List ℕ → ℕ) → List ℕ → Option Text
+blobOf v col bytes = blob (v .blob) (col (sizesOf v) bytes)
+
+-- The same where the row may be missing.
+abbrev pub stringIn : View → (IndexSizes → List ℕ → ℕ) → Option (List ℕ) → Option Text
+stringIn v col r = andThen r (stringOf v col)
+
+-- The string with the reason where it is missing; a row that is not there tells none.
 abbrev pub nameIn : View → (IndexSizes → List ℕ → ℕ) → Option (List ℕ) → Name
 nameIn v col none = missing Untold
 nameIn v col (some bytes) = name (v .strings) (col (sizesOf v) bytes)
@@ -82,7 +89,7 @@ refFullName v r = let row = indexed v typeRef r in fullName (stringIn v refNames
 
 -- The signature of TypeSpec row r (II.22.39).
 unfoldable pub specBlob : View → ℕ → Option (List ℕ)
-specBlob v r = andThen (indexed v typeSpec r) (λ bytes. blob (v .blob) (specSignature (sizesOf v) bytes))
+specBlob v r = andThen (indexed v typeSpec r) (blobOf v specSignature)
 
 -- The generic names of class c and of method m (II.22.20, `parse_generic_params`): an owner's low bit is 0 for a TypeDef row, 1 for a
 -- MethodDef row, and the rest is the row's number from 1. So owners 0, 1 and TypeDef row 1 belong to nobody.

@@ -19,7 +19,7 @@ use Rattle.record.specs.Columns.{typeName}
 use Rattle.record.specs.View.{View, view}
 use Rattle.record.specs.Names.{nameIn, classes, classIndex, classRow, classFullName, classNamed}
 use Rattle.record.specs.Record.{classRecord}
-use Rattle.record.specs.Answers.{walkAnswer, NumberCall, numberAnswer, NameCall, nameAnswer, ClassName, GenericName, BaseName, MethodName, MethodGenericName, ReturnType, ParameterType, ParameterName, className}
+use Rattle.record.specs.Answers.{walkAnswer, NumberCall, numberAnswer, NameCall, nameAnswer, ClassName, GenericName, BaseName, MethodName, MethodGenericName, ReturnType, ParameterType, ParameterName, ModuleName, ModuleRefName, AssemblyName, AssemblyCulture, AssemblyRefName, AssemblyRefKey, ConstantValue, Typelib, className}
 use Rattle.record.specs.Cases.{wholeTables, wholeStrings}
 
 -- "The string lookup shall tell three things apart, tested in this order: index 0, an index at or past the end, and a string with no
@@ -52,6 +52,14 @@ tellsReason (MethodGenericName c m g) = true
 tellsReason (ReturnType c m) = false
 tellsReason (ParameterType c m p) = false
 tellsReason (ParameterName c m p) = false
+tellsReason ModuleName = false
+tellsReason (ModuleRefName i) = false
+tellsReason AssemblyName = false
+tellsReason AssemblyCulture = false
+tellsReason (AssemblyRefName i) = false
+tellsReason (AssemblyRefKey i) = false
+tellsReason (ConstantValue i) = false
+tellsReason Typelib = false
 
 -- "5 for those names carries the reason": always one of the three.
 abbrev pub ReasonTold : Type 0
