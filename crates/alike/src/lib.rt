@@ -1,6 +1,9 @@
 // Demand 3 on the calls: the walk and every question, asked alike on a tables stream and on an allowed rearrangement of it, get the same
 // reply, leave the same buffer and leave as much of the allowance. Each function makes its call on both, and is proved from the call's
 // contract alone. A named call asks one question, and promises what the ask does of it.
+
+#![tactic(auto)]
+
 ghost use Rattle.std.specs.Prelude.{◌≡◌, length};
 ghost use Rattle.header.specs.Stream.{base};
 ghost use Rattle.record.specs.Rearrangement.{Rearranged};

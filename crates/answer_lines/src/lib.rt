@@ -1,5 +1,8 @@
 // The lines of a listing that answer a question, behind their keys: one function for a number, one for a name. A name is written where it
 // belongs; its length is judged there, and one that is too long is taken back.
+
+#![tactic(auto)]
+
 ghost use Rattle.std.specs.Prelude.{◌≡◌, false, cond, List, ℕ, ◌+◌, ◌≤◌, length};
 ghost use Rattle.buffers.specs.Texts.{Text};
 ghost use Rattle.buffers.specs.Writes.{Wrote};

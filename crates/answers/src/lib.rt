@@ -1,6 +1,9 @@
 // The answer to any question of a stream that is opened, by its layout. Every call is answered here, and every line of a listing. What a
 // question has learnt, it hands on to the next: where a class's methods are, how far a signature has been read, which base types have
 // been seen. It is true whatever is asked next; who uses it looks first whether it is about what is meant.
+
+#![tactic(auto)]
+
 ghost use Rattle.std.specs.Prelude.{List, ℕ};
 ghost use Rattle.buffers.specs.Replies.{Named};
 ghost use Rattle.buffers.specs.Telling.{ToldIs};
@@ -20,7 +23,7 @@ use places::Own;
 use questions::{NameQuestion, NumberQuestion};
 
 // What is known.
-#[derive(Drop)]
+#[derive(Clone, Copy)]
 pub struct Known {
     pub own: Own,
     pub signature: Signature,

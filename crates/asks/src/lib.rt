@@ -1,4 +1,7 @@
 // The calls that ask any question, within an allowance of steps: each opens the stream.
+
+#![tactic(auto)]
+
 ghost use Rattle.record.specs.View.{view};
 ghost use Rattle.record.specs.Allowance.{number_charged, name_charged, NumberedCharged, NamedCharged};
 ghost use Rattle.questions.specs.Questions.{number_call, name_call};
@@ -17,7 +20,7 @@ pub struct Allowance {
 }
 
 // Any question.
-#[derive(Drop)]
+#[derive(Clone, Copy)]
 pub enum Question {
     Number(NumberQuestion),
     Name(NameQuestion),

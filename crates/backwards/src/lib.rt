@@ -1,5 +1,8 @@
 // Text that is written into a lent buffer from its end towards its start, and then moved to its place: a nested class name is found
 // from its last part to its first.
+
+#![tactic(auto)]
+
 ghost use Rattle.std.specs.Prelude.{◌∷◌, [], ◌++◌, ◌≤◌, length};
 ghost use Rattle.backwards.specs.Backwards.{Placed, Moved};
 

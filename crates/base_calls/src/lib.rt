@@ -1,5 +1,8 @@
 // The calls for the base types of a class (ECMA-335 II.22.37, II.22.23): how many it has, and their names. Each counts the type bytes of
 // all of them.
+
+#![tactic(auto)]
+
 ghost use Rattle.record.specs.View.{view};
 ghost use Rattle.record.specs.Answers.{BaseCount, BaseName};
 ghost use Rattle.record.specs.Allowance.{number_charged, name_charged, NumberedCharged, NamedCharged};

@@ -1,6 +1,9 @@
 // The base types of a class: its Extends column (ECMA-335 II.22.37) and the rows of InterfaceImpl (II.22.23) that are its own, without
 // those whose type has no name. Which have one is known only by rendering them; so what has been seen of a class is handed on, and a
 // search that goes in order renders each candidate once.
+
+#![tactic(auto)]
+
 ghost use Rattle.std.specs.Prelude.{◌≡◌, List, ℕ, ◌-◌, ◌<◌, ◌≤◌, length};
 ghost use Rattle.std.proofs.Math.ListN.{get_elem?};
 ghost use Rattle.buffers.specs.Writes.{Said, place_says};
@@ -26,7 +29,7 @@ use steps::Steps;
 const NEVER: usize = 0xFFFF_FFFF_FFFF;
 
 // What is known of the base types of the class at a TypeDef row: how many have been seen, and among how many candidates. Row 0 is none.
-#[derive(Drop)]
+#[derive(Clone, Copy)]
 pub struct Bases {
     pub row: usize,
     pub seen: usize,

@@ -1,5 +1,8 @@
 // The input of the programs: the lines `tables=N`, `strings=N`, `blob=N`, then exactly those bytes in that order (document 01, "The
 // listing program"). What is found are the places of the three streams: `numbers::cut` gives the bytes.
+
+#![tactic(auto)]
+
 ghost use Rattle.std.specs.Prelude.{◌≡◌, ◌≤◌, length};
 ghost use Rattle.bundle.specs.Input.{digit_of, number_at, line_at, laid, bundle_of, Within, bundle_says, input_in};
 

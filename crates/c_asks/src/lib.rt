@@ -1,4 +1,7 @@
 // Any call of the library, asked from C by the number of its question.
+
+#![tactic(auto)]
+
 ghost use Rattle.record.specs.View.{view};
 ghost use Rattle.record.specs.Allowance.{NumberedCharged, NamedCharged};
 ghost use Rattle.c_questions.specs.Asked.{options_of, number_asked, name_asked, asked_number, asked_name};

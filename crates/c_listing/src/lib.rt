@@ -1,4 +1,7 @@
 // The listing for C, piece by piece: as many whole lines as a lent buffer holds, and where it goes on, as four numbers.
+
+#![tactic(auto)]
+
 ghost use Rattle.std.specs.Prelude.{◌≡◌, length, replicate};
 ghost use Rattle.record.specs.View.{view};
 ghost use Rattle.listing_steps.specs.Filling.{piece_of};

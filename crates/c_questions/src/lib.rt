@@ -1,5 +1,8 @@
 // What C asks, as the library takes it: the options as a set of bits, and any call as the number of its question
 // (include/dotnet_tables.h).
+
+#![tactic(auto)]
+
 ghost use Rattle.std.specs.Prelude.{◌≡◌, ◌<◌};
 ghost use Rattle.header.specs.Stream.{opened};
 ghost use Rattle.c_questions.specs.Asked.{has_bit, options_of, number_asked, name_asked, no_question, number_meant, name_meant};

@@ -1,6 +1,9 @@
 // The answers of the calls as C takes them: structs of numbers, since no enum crosses to C. A refusal is its number in document 01, and
 // 0 says that there is none; beside a refusal all else is 0, but for the reason. That says why a string is missing, beside 7 of a string
 // and 5 of a class, method or generic name; else it is 0.
+
+#![tactic(auto)]
+
 ghost use Rattle.std.specs.Prelude.{◌≡◌};
 ghost use Rattle.buffers.specs.Replies.{reply_says};
 ghost use Rattle.tables.specs.Extents.{walk_says};

@@ -1,4 +1,7 @@
 // The type-name section for C (2026-14): the reply as three numbers.
+
+#![tactic(auto)]
+
 ghost use Rattle.std.specs.Prelude.{◌≡◌};
 ghost use Rattle.record.specs.View.{view};
 ghost use Rattle.name_section.specs.Section.{names, section_says};

@@ -13,7 +13,7 @@ use questions::{NameQuestion, NumberQuestion};
 use steps::Charged;
 
 // How a call is asked.
-#[derive(Drop)]
+#[derive(Clone, Copy)]
 enum Way {
     Plain,
     Within,
@@ -22,7 +22,7 @@ enum Way {
 
 // The options of a block, and the numbers of a line: a class; its method, generic parameter or base type; a generic parameter or a
 // parameter of that method; the allowance, and what is to be left of it. Those that a call does not take count for nothing.
-#[derive(Drop)]
+#[derive(Clone, Copy)]
 struct Asked {
     options: Options,
     class: ClassNumber,
@@ -33,7 +33,7 @@ struct Asked {
 }
 
 // The number and the reason of a refusal; both are 0 where nothing is refused.
-#[derive(Drop)]
+#[derive(Clone, Copy)]
 struct Refused {
     number: usize,
     reason: usize,

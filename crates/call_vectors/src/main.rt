@@ -5,6 +5,9 @@
 // options are not 0 a line `options N`, the bits that C takes, then a line for each answer (see answers.rt). Lines that are empty or begin
 // with `#` are passed over. Each answer that differs is written as `FAIL` and its line; each block as `ok` or `FAIL`, its name and its
 // answers.
+
+#![tactic(auto)]
+
 mod answers;
 
 use check::same;

@@ -1,4 +1,7 @@
 // The text of recorded cases: its lines, the fields of a line, and the numbers and bytes that they hold.
+
+#![tactic(auto)]
+
 ghost use Rattle.std.specs.Prelude.{◌≡◌, ◌+◌, ◌-◌, ◌/◌, ◌%◌, ◌<◌, length};
 ghost use Rattle.numbers.specs.Parts.{CutOf};
 ghost use Rattle.buffers.specs.Writes.{Wrote};

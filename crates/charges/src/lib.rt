@@ -1,5 +1,8 @@
 // The answer to any question of a stream that is opened, within an allowance of steps (request 2026-06): what it counts is passed over
 // first, so that nothing is rendered of what is too much; and what is left is told.
+
+#![tactic(auto)]
+
 ghost use Rattle.std.specs.Prelude.{◌≡◌, true, List, ℕ, ◌≤◌};
 ghost use Rattle.record.specs.Allowance.{count_of, base_work, method_work, number_work, name_work, number_charged, name_charged, is_over};
 ghost use Rattle.record.specs.Allowance.{NumberedCharged, NamedCharged};

@@ -1,4 +1,7 @@
 // The answers of the calls for a class, of a stream that is opened: by its layout. The public calls open it, and so does a listing, once.
+
+#![tactic(auto)]
+
 ghost use Rattle.std.specs.Prelude.{List, ℕ};
 ghost use Rattle.std.proofs.Math.Option.{Option};
 ghost use Rattle.buffers.specs.Texts.{Text};

@@ -1,4 +1,7 @@
 // The calls for classes: how many there are, and the full name, flags, packing and size of each.
+
+#![tactic(auto)]
+
 ghost use Rattle.buffers.specs.Replies.{Named};
 ghost use Rattle.record.specs.View.{view};
 ghost use Rattle.record.specs.Answers.{Numbered, class_count, class_flags, class_packing, class_size, class_name};

@@ -1,14 +1,17 @@
 // TypeDef rows and classes. TypeDef row 1 is no class, so row r is class r - 2: the two numbers are two types, and turn into each
 // other here and nowhere else.
+
+#![tactic(auto)]
+
 ghost use Rattle.std.specs.Prelude.{◌≡◌, ◌<◌, ◌≤◌};
 ghost use Rattle.classes.specs.Numbering.{row_of, place_of, class_at, owner_of};
 
 // A row of TypeDef, counted from 1; 0 is no row.
-#[derive(Drop)]
+#[derive(Clone, Copy)]
 pub struct TypeDefRow(pub u32);
 
 // A class of the record, counted from 0.
-#[derive(Drop)]
+#[derive(Clone, Copy)]
 pub struct ClassNumber(pub u32);
 
 // The row of a class; of a number too large for a row, no row.

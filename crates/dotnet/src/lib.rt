@@ -1,6 +1,9 @@
 // The library: every public call, from the crates that prove them. Each takes the streams as lent slices, opens them itself, has no
 // precondition, and says its entire reply and, for a name, the entire final buffer. The calls for base types and for what a signature says
 // count type bytes: they take an allowance of steps, and say what is left of it.
+
+#![tactic(auto)]
+
 ghost use Rattle.std.specs.Prelude.{◌≡◌};
 ghost use Rattle.buffers.specs.Replies.{Named};
 ghost use Rattle.header.specs.Stream.{base};

@@ -1,6 +1,9 @@
 // The library for C: each public call of `dotnet`, any call by the number of its question, the listing by pieces, and the type-name
 // section, as include/dotnet_tables.h declares them. The options are a set of bits, the numbers of classes, methods, generics, base types and
 // parameters are plain, and every answer is a struct of numbers. A call that counts is lent the allowance, and leaves there what is left.
+
+#![tactic(auto)]
+
 ghost use Rattle.std.specs.Prelude.{◌≡◌, length, replicate};
 ghost use Rattle.tables.specs.Extents.{walk_of};
 ghost use Rattle.record.specs.View.{view};

@@ -1,6 +1,9 @@
 // Values of the listing, as they are written (2026-05, "A name with a line break"): a byte below 0x22, above 0x7E, or equal to 0x25 as a
 // percent sign and two upper-case hex digits. A value is written as it stands first. Where it has such a byte, it is copied away from there
 // on, and written anew from the copy.
+
+#![tactic(auto)]
+
 ghost use Rattle.std.specs.Prelude.{◌≡◌, ℕ, ◌+◌, ◌-◌, ◌*◌, ◌/◌, ◌%◌, ◌<◌, ◌≤◌, true, List, [], ◌∷◌, length, slice_index};
 ghost use Rattle.numbers.specs.Fixed.{le_at};
 ghost use Rattle.numbers.specs.Parts.{part};

@@ -1,5 +1,8 @@
 // Prints where the tables of the input lie: standard input holds the three streams, as document 01's listing program takes them. Where
 // the text cannot be written the program says so on standard error.
+
+#![tactic(auto)]
+
 use extents_text::Sizes;
 
 fn main() {

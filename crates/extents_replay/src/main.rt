@@ -2,6 +2,9 @@
 // input and of the expected text, 4 bytes each, little-endian; the input; the text. Then, in the same way, the file `wrong`, whose texts
 // are wrong on purpose (tests/oracle/wrong_cases). Each file is replayed by both walks: its name and the walk are written, then the first ten
 // cases that differ, counted from 0, and how many agreed and how many differed.
+
+#![tactic(auto)]
+
 ghost use Rattle.std.specs.Prelude.{◌≤◌};
 
 use extents_text::Sizes;

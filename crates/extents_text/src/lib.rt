@@ -1,4 +1,7 @@
 // The extents of an input as text, for the programs that print or compare it: where each table lies, and where the walk was left.
+
+#![tactic(auto)]
+
 ghost use Rattle.std.specs.Prelude.{◌≡◌, ◌+◌, min, length};
 ghost use Rattle.buffers.specs.Texts.{q};
 ghost use Rattle.buffers.specs.Writes.{Wrote};
@@ -12,7 +15,7 @@ use bundle::Bundle;
 use tables::Extents;
 
 // Where a walk has the row sizes from: sums of columns, or the table of row sizes.
-#[derive(Drop)]
+#[derive(Clone, Copy)]
 pub enum Sizes {
     Summed,
     Tabled,

@@ -1,5 +1,8 @@
 // Generic types inside of one another, at one level of a signature (ECMA-335 II.23.2.12). What follows behind a type that ends is kept
 // in a lent array as a stack of frames, one number each, so that a nesting takes two bytes and no call.
+
+#![tactic(auto)]
+
 ghost use Rattle.std.specs.Prelude.{◌≡◌, ◌+◌, ◌<◌, ◌≤◌, length};
 ghost use Rattle.frames.specs.Stack.{stack, Ends, Ascends, Descends, Paired};
 

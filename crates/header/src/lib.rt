@@ -1,4 +1,7 @@
 // The header of the tables stream and its row counts (ECMA-335 II.24.2.6), or why the stream is refused.
+
+#![tactic(auto)]
+
 ghost use Rattle.std.specs.Prelude.{◌≡◌, true, ◌+◌, ◌*◌, ◌≤◌, min, length};
 ghost use Rattle.numbers.specs.Bits.{bit_at, ones_below};
 ghost use Rattle.header.specs.Stream.{base, valid, counts_end, refused_header, opened, CountsRead};
@@ -7,7 +10,7 @@ use buffers::Refusal;
 
 // How a stream is opened: the most rows that a table may have, whether DeclSecurity counts for HasCustomAttribute, as in the standard,
 // and whether the class that takes a method is the only one to read its signature.
-#[derive(Drop)]
+#[derive(Clone, Copy)]
 pub struct Options {
     pub limit: u32,
     pub security: bool,

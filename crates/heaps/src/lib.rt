@@ -1,5 +1,8 @@
 // Lookups in the strings heap and the blob heap (ECMA-335 II.24.2.3, II.24.2.4): as positions, for the layers above, and as the very
 // part of the heap, for the library's users.
+
+#![tactic(auto)]
+
 ghost use Rattle.std.specs.Prelude.{◌≡◌, ◌+◌, true, drop};
 ghost use Rattle.heaps.specs.Lookups.{before, Without, string_at, string, is_there, blob_at, Inside, Handed, Looked};
 

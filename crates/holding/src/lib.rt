@@ -2,6 +2,9 @@
 // behind it is cut into four, for GenericParam by Owner, NestedClass, InterfaceImpl by Class, and ClassLayout by Parent, in this order, as
 // they are asked for most. One for which there are not enough words gets none, and then rows are searched for one by one; a table without
 // rows needs none. What the words held before means nothing.
+
+#![tactic(auto)]
+
 ghost use Rattle.std.specs.Prelude.{◌≡◌, List, ℕ, ◌+◌, ◌-◌, ◌*◌, ◌<◌, ◌≤◌, length, set};
 ghost use Rattle.rows.specs.Columns as columns;
 ghost use Rattle.rows.specs.Layout.{Laid, rows_at, cell};

@@ -1,5 +1,8 @@
 // Rows of a table by the value of a key column, in their order, as the rows of GenericParam (ECMA-335 II.22.20) that have an Owner. The
 // rows need not be sorted by the key; where the layout has a memory of them by the key, they are found in it at once.
+
+#![tactic(auto)]
+
 ghost use Rattle.std.specs.Prelude.{◌≡◌, ℕ, ◌<◌, ◌≤◌};
 ghost use Rattle.rows.specs.Columns as columns;
 ghost use Rattle.rows.specs.Layout.{Laid, rows_at, cell};

@@ -1,6 +1,9 @@
 // How many bytes an index into a heap or a table takes (ECMA-335 II.24.2.6), and with that a row of each table (II.22), and the columns
 // that are read. What is listed here, in rows.rt, columns.rt and references.rt is the Rust's; specs/ has it from the standard, and the proofs hold
 // the one against the other.
+
+#![tactic(auto)]
+
 pub mod columns;
 mod kinds;
 pub mod references;
@@ -11,7 +14,7 @@ ghost use Rattle.layouts.specs.Columns.{reaches, index_size, has_custom_attribut
 ghost use Rattle.layouts.specs.Lists.{all_below};
 
 // The bytes that an index takes, 2 or 4.
-#[derive(Drop)]
+#[derive(Clone, Copy)]
 pub struct IndexSizes {
     // into a heap
     pub string: u8,

@@ -1,6 +1,9 @@
 // The lines of the listing, appended to a lent buffer, and the cursor that goes from line to line (document 01, "The listing program"). A
 // name's line is ended where the name was written, behind its key: a name that is too long is taken back there, and any other is written
 // as a value.
+
+#![tactic(auto)]
+
 ghost use Rattle.std.specs.Prelude.{◌≡◌, List, [], ℕ, ◌+◌, ◌≤◌, length};
 ghost use Rattle.buffers.specs.Texts.{Text};
 ghost use Rattle.buffers.specs.Writes.{Wrote, Kept};
@@ -25,7 +28,7 @@ const NO_SUCH_ROW: u8 = 4;
 pub const LINE_ROOM: usize = 4120;
 
 // What the next line is about. Packing and size come behind the flags in a listing, and last here, as in the numbers that C programs use.
-#[derive(Drop)]
+#[derive(Clone, Copy)]
 pub enum Place {
     Stop,
     Classes,
@@ -45,7 +48,7 @@ pub enum Place {
 }
 
 // Where the listing is: the class, the method and the item that the place is about, from 0.
-#[derive(Drop)]
+#[derive(Clone, Copy)]
 pub struct Cursor {
     pub place: Place,
     pub class: ClassNumber,
@@ -54,7 +57,7 @@ pub struct Cursor {
 }
 
 // The next cursor, and the place in the buffer after the line.
-#[derive(Drop)]
+#[derive(Clone, Copy)]
 pub struct Step {
     pub next: Cursor,
     pub at: usize,

@@ -1,6 +1,9 @@
 // Lists the classes of the input, as document 01 gives it: standard input holds the three streams, and standard output gets the listing,
 // piece by piece; what is known after one goes to the next. Where it cannot be written the program stops there, and says so on standard
 // error.
+
+#![tactic(auto)]
+
 ghost use Rattle.std.specs.Prelude.{◌≡◌, true, List, ℕ, ◌≤◌, length};
 ghost use Rattle.record.specs.View.{view};
 ghost use Rattle.rows.specs.Columns as columns;

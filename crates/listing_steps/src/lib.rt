@@ -1,6 +1,9 @@
 // The listing step by step: the line at each place of the cursor, and as many lines as a buffer holds, over a stream that is opened. Most
 // lines are written where they belong. Where there is less room than a name may take as it stands, each is made elsewhere first. What a
 // line counts is looked at where it is not known that every name is within the ceiling, and once for all lines that count the same.
+
+#![tactic(auto)]
+
 ghost use Rattle.std.specs.Prelude.{◌≡◌, true, false, List, ℕ, ◌+◌, ◌<◌, ◌≤◌, length};
 ghost use Rattle.buffers.specs.Replies.{reply_says};
 ghost use Rattle.buffers.specs.Writes.{Wrote};

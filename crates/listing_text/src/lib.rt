@@ -1,5 +1,8 @@
 // The listing, piece by piece, for the programs that print or compare it: a buffer filled with whole lines, of three streams or of a
 // program's input.
+
+#![tactic(auto)]
+
 ghost use Rattle.std.specs.Prelude.{◌≡◌, List, ℕ, length, replicate};
 ghost use Rattle.header.specs.Stream.{opened};
 ghost use Rattle.header.specs.declared.Options.{Options as Opts};

@@ -1,5 +1,8 @@
 // What is known of the order of MethodList: it should run on from class to class (ECMA-335 II.22.37), but no file has to keep to it. One
 // pass over the column tells, and a mark in the layout says so to every search after it.
+
+#![tactic(auto)]
+
 ghost use Rattle.std.specs.Prelude.{◌≡◌, ◌<◌};
 ghost use Rattle.rows.specs.Columns as columns;
 ghost use Rattle.rows.specs.Layout.{Laid, Ascends, rows_at, cell};

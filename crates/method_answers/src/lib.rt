@@ -1,5 +1,8 @@
 // The answers of the calls for a method, of a stream that is opened: by its layout. The public calls open it, and so does a listing, once.
 // Which row a method of a class has is found before (`places::place_method`), once for all questions about it. A name is told at a place.
+
+#![tactic(auto)]
+
 ghost use Rattle.std.specs.Prelude.{◌≡◌, true, List, ℕ, ◌<◌, ◌≤◌, length};
 ghost use Rattle.buffers.specs.Telling.{ToldIs};
 ghost use Rattle.record.specs.Answers.{Numbered, method_count, method_flags, method_name, method_generic_count, method_generic_name, return_type, parameter_count, parameter_type, parameter_name};

@@ -1,4 +1,7 @@
 // The calls for the methods of a class (ECMA-335 II.22.26): how many it has, and the name and flags of each.
+
+#![tactic(auto)]
+
 ghost use Rattle.buffers.specs.Replies.{Named};
 ghost use Rattle.record.specs.View.{view};
 ghost use Rattle.record.specs.Answers.{Numbered, method_count, method_flags, method_name};

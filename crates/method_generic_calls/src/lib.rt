@@ -1,4 +1,7 @@
 // The calls for the generic parameters of a method (ECMA-335 II.22.20): how many it has, and their names.
+
+#![tactic(auto)]
+
 ghost use Rattle.buffers.specs.Replies.{Named};
 ghost use Rattle.record.specs.View.{view};
 ghost use Rattle.record.specs.Answers.{Numbered, method_generic_count, method_generic_name};

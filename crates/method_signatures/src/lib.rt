@@ -2,6 +2,9 @@
 // type that it finds, and the types of the parameters behind it. What is known of a signature goes in and out by value, so that the next
 // question about the same method goes on where the last one left off. It is true whatever is asked next: a question first looks whether
 // it is about the method that is meant, and the class that takes it, by one number for both, and else finds out anew.
+
+#![tactic(auto)]
+
 ghost use Rattle.std.specs.Prelude.{◌≡◌, true, ◌&&◌, ◌||◌, List, ℕ, ◌+◌, ◌<◌, ◌≤◌, leb, ltb, length};
 ghost use Rattle.std.proofs.Math.Option.{none};
 ghost use Rattle.buffers.specs.Writes.{Said, place_says};
@@ -45,7 +48,7 @@ pub enum Reading {
 }
 
 // The signature of a method, as far as the types of some of its parameters have been read.
-#[derive(Drop)]
+#[derive(Clone, Copy)]
 pub struct Signature {
     // the class that takes the method, and the method, as one number (`key_of`); 0 where no signature is known
     pub method: usize,

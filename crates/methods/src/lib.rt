@@ -1,5 +1,8 @@
 // Which methods a class has (`finalize`, where it drains the methods): the classes take theirs from the last to the first, each by its
 // MethodList column (ECMA-335 II.22.37), of what those after it have left.
+
+#![tactic(auto)]
+
 ghost use Rattle.std.specs.Prelude.{◌≡◌, List, ℕ, ◌-◌, ◌<◌, ◌≤◌};
 ghost use Rattle.classes.specs.Numbering.{class_of};
 ghost use Rattle.record.specs.Methods.{takes, left_after};

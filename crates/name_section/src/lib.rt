@@ -1,5 +1,8 @@
 // The type-name section (2026-14): the full names of all classes in one lent buffer, each closed by a zero and filled with zeros up to a
 // multiple of four, and in another where each begins. Every byte and every offset of both is said, whatever they held before.
+
+#![tactic(auto)]
+
 ghost use Rattle.std.specs.Prelude.{◌≡◌, List, ℕ, ◌+◌, ◌-◌, ◌%◌, ◌<◌, ◌≤◌, replicate};
 ghost use Rattle.buffers.specs.Writes.{Wrote};
 ghost use Rattle.buffers.specs.Replies.{refused_by, value, cleared};
@@ -30,7 +33,7 @@ const MOST_ROWS: usize = 15_000;
 const WORDS: usize = columns::SIZE + 2 * MOST_ROWS + 2;
 
 // The bytes of the section and the number of classes; or why there is none.
-#[derive(Drop)]
+#[derive(Clone, Copy)]
 pub enum Section {
     Written { bytes: usize, classes: usize },
     No(Refusal),

@@ -1,6 +1,9 @@
 // Names of classes (ECMA-335 II.22.37, II.22.32) and of TypeRef rows (II.22.38). A class nested in others has their names in front of
 // its own: these are found from the innermost class outwards, by the layout's links from NestedClass row to row, or by one backward pass over
 // these rows where it has none. So the text is written from its end.
+
+#![tactic(auto)]
+
 ghost use Rattle.std.specs.Prelude.{◌≡◌, List, ◌∷◌, [], ◌++◌, ℕ, ◌+◌, ◌<◌, ◌≤◌, min, length};
 ghost use Rattle.numbers.specs.Parts.{part};
 ghost use Rattle.buffers.specs.Writes.{Wrote, Said, place_says};

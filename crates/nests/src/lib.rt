@@ -2,6 +2,9 @@
 // another around it, and for each such row the last row before it that does the same for its enclosing class. One pass over NestedClass
 // fills it, forwards, whatever the order of the rows; so a class's name goes from link to link, outwards. What the memory held before means
 // nothing.
+
+#![tactic(auto)]
+
 ghost use Rattle.std.specs.Prelude.{◌≡◌, ℕ, ◌+◌, ◌<◌, ◌≤◌, length, get_or};
 ghost use Rattle.rows.specs.Columns as columns;
 ghost use Rattle.rows.specs.Layout.{Laid, rows_at, cell};

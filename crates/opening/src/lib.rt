@@ -1,4 +1,7 @@
 // Opening a tables stream (ECMA-335 II.24.2.6): whether it is refused, and the layout by which its columns are read.
+
+#![tactic(auto)]
+
 ghost use Rattle.std.specs.Prelude.{◌≡◌, cond, ◌&&◌, not, ◌≤◌, ◌<◌, eqb, replicate};
 ghost use Rattle.header.specs.declared.Opened.TheVariants.{Ready};
 ghost use Rattle.tables.specs.Extents.{only_entire};

@@ -1,6 +1,9 @@
 // Passing over types in signatures (ECMA-335 II.23.2.12) without writing them: whether they have a text, the position after them, and how
 // many of the steps lent are left. A type byte takes a step as soon as it is read; where none is left for it, the work ends. The
 // functions lead into one another as those that render do, and each call leaves fewer levels, or as many and fewer bytes.
+
+#![tactic(auto)]
+
 ghost use Rattle.std.specs.Prelude.{◌≡◌, true, false, List, [], ℕ, ◌<◌, length};
 ghost use Rattle.std.proofs.Math.Option.{Option, some};
 ghost use Rattle.buffers.specs.Texts.{Text};

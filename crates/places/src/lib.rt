@@ -1,5 +1,8 @@
 // What the calls share: which row is meant by a class's place in the record, and by a method's place in its class, or that there is none;
 // and the names of generic parameters by their owner.
+
+#![tactic(auto)]
+
 ghost use Rattle.std.specs.Prelude.{◌≡◌, List, ℕ, ◌-◌, ◌<◌, ◌≤◌, length};
 ghost use Rattle.std.proofs.Math.ListN.{get_elem?};
 ghost use Rattle.buffers.specs.Replies.{value};
@@ -27,14 +30,14 @@ pub enum ClassRow {
 }
 
 // A place of MethodDef, from 0.
-#[derive(Drop)]
+#[derive(Clone, Copy)]
 pub enum MethodRow {
     Row(usize),
     NoRow,
 }
 
 // What is known of the methods of the class at a TypeDef row: they are the places of MethodDef from the first up to the end. Row 0 is none.
-#[derive(Drop)]
+#[derive(Clone, Copy)]
 pub struct Own {
     pub row: usize,
     pub first: usize,

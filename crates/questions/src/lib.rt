@@ -1,8 +1,11 @@
 // Every call as one question: whatever is proved of all questions holds for all calls.
+
+#![tactic(auto)]
+
 use classes::ClassNumber;
 
 // The calls for a number. A class is meant by its number, all else by its place, from 0.
-#[derive(Drop)]
+#[derive(Clone, Copy)]
 pub enum NumberQuestion {
     ClassCount,
     ClassFlags(ClassNumber),
@@ -17,7 +20,7 @@ pub enum NumberQuestion {
 }
 
 // The calls for a name.
-#[derive(Drop)]
+#[derive(Clone, Copy)]
 pub enum NameQuestion {
     ClassName(ClassNumber),
     GenericName(ClassNumber, u32),

@@ -1,6 +1,9 @@
 // What an assembly says of itself and of what it refers to (request 2026-03): the rows of the tables that say it (ECMA-335 II.22), read on
 // demand by a layout of their own. A layout is a slice of words: the numbers of each column that is read, as in `rows`, the options, and how
 // many rows the tables have that are given only if they are read whole.
+
+#![tactic(auto)]
+
 pub mod columns;
 pub mod constants;
 pub mod names;

@@ -2,6 +2,9 @@
 // the input and of the expected listing, 4 bytes each, little-endian; the input; the listing. Then, in the same way, the file `wrong`,
 // whose listings are wrong on purpose (tests/oracle/wrong_cases). For each file its name is written, then the first ten cases that
 // differ, counted from 0, and how many agreed and how many differed.
+
+#![tactic(auto)]
+
 use lines::Cursor;
 
 // What became of a case.

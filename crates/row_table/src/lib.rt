@@ -1,6 +1,9 @@
 // Row sizes by table: those of the 45 kinds (ECMA-335 II.22) under 64 settings of widths, three heap bits and the three coded indices that can
 // have 4 bytes where no table has more than 15,000 rows. Which entry stands where, and that each is the sum of its kind's columns, say the
 // specs.
+
+#![tactic(auto)]
+
 ghost use Rattle.std.specs.Prelude.{◌≡◌, [], ◌<◌, get_or};
 ghost use Rattle.row_table.specs.RowTable.{row_table};
 

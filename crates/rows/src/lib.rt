@@ -1,6 +1,9 @@
 // The rows of the tables (ECMA-335 II.22), read on demand: a column of a row, by the layout that opening made. A layout is a slice of
 // words: the numbers of each column that is read, the options, a mark, and where the memories are by which rows are found: these
 // stand behind them, in the same slice.
+
+#![tactic(auto)]
+
 pub mod columns;
 
 ghost use Rattle.std.specs.Prelude.{◌≡◌, List, ℕ, ◌+◌, ◌<◌, ◌≤◌, length};

@@ -1,6 +1,9 @@
 // Writes the type-name section of the input (2026-14): standard input holds the three streams, as for the listing program, and standard
 // output gets the lines `section=N` and `offsets=M`, then the section's bytes, then the offsets, 4 bytes each; or the line `refused=N`
 // alone. Where it cannot be written the program stops there, and says so on standard error.
+
+#![tactic(auto)]
+
 use name_section::Section;
 
 // Bytes for the section, and places for the offsets: 6 is refused above either.

@@ -3,6 +3,9 @@
 // buffers filled in four ways, and at lengths that are exact, one less and more. Then, in the same way, the file `wrong`, whose sections are
 // wrong on purpose (tests/oracle/wrong_cases). For each file its name is written, then the first ten cases that differ, counted from 0,
 // and how many agreed and how many differed.
+
+#![tactic(auto)]
+
 use check::same;
 use numbers::cut;
 

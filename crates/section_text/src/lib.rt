@@ -1,5 +1,8 @@
 // What the program `section` and its tests write of a type-name section (2026-14): the section of an input, the lines before it, and the
 // offsets behind it.
+
+#![tactic(auto)]
+
 ghost use Rattle.std.specs.Prelude.{take};
 ghost use Rattle.buffers.specs.Writes.{Wrote};
 ghost use Rattle.buffers.specs.Replies.{refused_by};

@@ -1,5 +1,8 @@
 // Arrays in a signature: the shape (ECMA-335 II.23.2.13), which follows the element type of an array with dimensions and bounds; and
 // runs of tags that keep the level before a type, each 0x1D of which is a pair of brackets behind the type's text.
+
+#![tactic(auto)]
+
 ghost use Rattle.std.specs.Prelude.{◌≡◌, ◌++◌, ◌+◌, ◌-◌, ◌<◌, length, pos, negsuc, ◌+ℤ◌};
 ghost use Rattle.std.proofs.Math.Option.{none, some};
 ghost use Rattle.numbers.specs.Compressed.{uint, sint, uint_says, sint_says};

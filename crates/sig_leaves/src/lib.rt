@@ -1,5 +1,8 @@
 // The leaves of rendering a signature (ECMA-335 II.23.2): the parts that hold no type. The types that are their tag alone, what stands
 // before a method's types, the number of generic arguments, generic parameters by their place, and the signatures of TypeSpec rows.
+
+#![tactic(auto)]
+
 ghost use Rattle.std.specs.Prelude.{◌≡◌, List, ℕ, ◌<◌};
 ghost use Rattle.numbers.specs.Compressed.{uint_says};
 ghost use Rattle.buffers.specs.Writes.{Said, place_says};
@@ -22,7 +25,7 @@ use rows::columns;
 pub const LEVELS: usize = 17;
 
 // Whose generic parameters are meant, by the Owner column as stored (II.22.20). A signature that is in no method has none of a method.
-#[derive(Drop)]
+#[derive(Clone, Copy)]
 pub enum Owner {
     Of(usize),
     Nobody,

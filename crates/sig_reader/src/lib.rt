@@ -1,13 +1,16 @@
 // The signature reader: a struct that holds a lent part of the blob heap and a position in it, where the Rust moves its `Bytes` on. It
 // goes by value, so what has read on is a reader made anew. The functions over it are few, since each is proved by hand; those named
 // `read_` have plain parameters, and whoever calls them has no reader of their own.
+
+#![tactic(auto)]
+
 ghost use Rattle.std.specs.Prelude.{◌≡◌};
 ghost use Rattle.numbers.specs.Compressed.{uint, uint_says};
 ghost use Rattle.sig_reader.specs.Numbers.{next_number};
 
 use numbers::Uint;
 
-#[derive(Drop)]
+#[derive(Clone, Copy)]
 pub struct SigReader<'a> {
     pub sig: &'a [u8],
     pub pos: usize,

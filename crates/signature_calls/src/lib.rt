@@ -1,5 +1,8 @@
 // The calls for what a method's signature says (ECMA-335 II.23.2.1): its return type, and how many parameters it has, with the type and
 // the name of each. Each counts the type bytes of all readings of the whole signature that the mode makes.
+
+#![tactic(auto)]
+
 ghost use Rattle.record.specs.View.{view};
 ghost use Rattle.record.specs.Answers.{ReturnType, ParameterCount, ParameterType, ParameterName};
 ghost use Rattle.record.specs.Allowance.{number_charged, name_charged, NumberedCharged, NamedCharged};

@@ -1,6 +1,9 @@
 // The text of types in signatures (ECMA-335 II.23.2.12): the type name, the signature type and the method signature lead into one
 // another, as in the Rust. Each call leaves fewer levels, or as many levels and fewer bytes of the signature. Text goes to the lent
 // buffer; whether it fits is judged only at the end.
+
+#![tactic(auto)]
+
 ghost use Rattle.std.specs.Prelude.{◌≡◌, true, List, [], ℕ, ◌+◌, ◌<◌, ◌≤◌, length, get_or};
 ghost use Rattle.buffers.specs.Writes.{Wrote, Said, place_says};
 ghost use Rattle.record.specs.Dims.{sep};

@@ -1,4 +1,7 @@
 // An allowance of steps (request 2026-06), and what is left of it: after counting, and after a reply. A step is a type byte that is read.
+
+#![tactic(auto)]
+
 ghost use Rattle.std.specs.Prelude.{◌≡◌, ℕ, ◌+◌, ◌-◌};
 ghost use Rattle.buffers.specs.Replies.{reply_says};
 ghost use Rattle.record.specs.Allowance.{cost};

@@ -1,5 +1,8 @@
 // The walk over the tables of an opened tables stream (ECMA-335 II.24.2.6): where each table begins, its row size and its whole rows.
 // The public calls `walk` and `walk_with` stand in crate `walks`.
+
+#![tactic(auto)]
+
 pub mod blocks;
 
 ghost use Rattle.std.specs.Prelude.{◌≡◌, ℕ, ◌-◌, ◌/◌, ◌≤◌, ◌<◌, min};

@@ -3,6 +3,9 @@
 // the first `@` is passed over; each `@` begins a block: a line with its name, the lines `tables HEX`, `strings HEX` and `blob HEX`,
 // with `-` for an empty stream, then a line for each type (see types.rt). Lines that are empty or begin with `#` are passed over. Each
 // type that differs is written as `FAIL` and its line; each block as `ok` or `FAIL`, its name and its types.
+
+#![tactic(auto)]
+
 mod pieces;
 mod types;
 

@@ -21,14 +21,14 @@ const LEVELS: usize = 17;
 const SHORT: usize = 64;
 
 // Whose generic parameters are meant.
-#[derive(Drop)]
+#[derive(Clone, Copy)]
 struct Owners {
     class: Owner,
     method: Owner,
 }
 
 // What is expected beside the text: a refusal, or 0; the position after the type.
-#[derive(Drop)]
+#[derive(Clone, Copy)]
 struct Expected {
     refusal: usize,
     next: usize,

@@ -3,6 +3,9 @@
 // that finds no difference is found out. A line is `KIND BYTES NUMBER = EXPECTED`: the bytes in hex, `-` for none. Lines that are empty or
 // begin with `#` are passed over. A case that fails is written as `WRONG`, its line and what came; one that agrees as `ok` and its line.
 // Of the recorded ones that agree only the number is written.
+
+#![tactic(auto)]
+
 ghost use Rattle.std.specs.Prelude.{◌≤◌};
 
 mod answers;

@@ -1,5 +1,8 @@
 // The public calls for the walk over the tables of a stream (ECMA-335 II.24.2.6): open it, and say where each table begins, its row size
 // and its whole rows. There are two engines with one reply: one finds the row sizes as sums of columns, the other in a table.
+
+#![tactic(auto)]
+
 ghost use Rattle.std.specs.Prelude.{◌≡◌};
 ghost use Rattle.header.specs.Stream.{base};
 ghost use Rattle.tables.specs.Extents.{walk_says, walk_of};
