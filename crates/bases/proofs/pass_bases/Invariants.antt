@@ -1,0 +1,13 @@
+use Prim.Native.Nat.{◌+◌, ◌-◌}
+use native.Mathlib.Omega.{arith}
+use Rattle.rows.specs.Columns as columns
+use Rattle.rows.proofs.Laws.{rows-narrow}
+use Rattle.bases.specs.Candidates.{CandidateIs}
+use Rattle.bases.proofs.Laws.{Passing, pass-start, pass-more, pass_spent, pass-past, pass_all, candidates-most}
+use Rattle.bases.proofs.pass_bases.Given as goal
+
+abbrev pub invariant-loop-i : goal.invariant-loop-i
+invariant-loop-i l = Passing l.tables l.layout l.strings l.blob l.row.0 l.steps l.i l.from l.passed l.have
+
+abbrev pub decreases-loop-i : goal.decreases-loop-i
+decreases-loop-i l = l.n + 1 - l.i

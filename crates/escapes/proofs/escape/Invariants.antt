@@ -1,0 +1,12 @@
+use Rattle.std.proofs.Common.{ℕ, ◌-◌, ◌≤◌, List, ◌∙◌, arith, rules}
+use borrow.Author.Tests.{not-false}
+use Rattle.buffers.specs.Writes.{Kept}
+use Rattle.escapes.specs.Escapes.{Stands}
+use Rattle.escapes.proofs.Writing.{stands-none, stands-eight, stands-more, stands-done, stands-then}
+use Rattle.escapes.proofs.escape.Given as goal
+
+abbrev pub invariant-loop-i : goal.invariant-loop-i
+invariant-loop-i l = ((b : List ℕ) → Kept b l.end l.initial.out → Kept b l.end l.out) × (l.start ≤ l.i) × Stands l.out l.start (l.i - l.start)
+
+abbrev pub decreases-loop-i : goal.decreases-loop-i
+decreases-loop-i l = l.end - l.i

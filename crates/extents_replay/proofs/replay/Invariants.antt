@@ -1,0 +1,10 @@
+use mathlib.Core.Logic.{⊎_elim}
+use Prim.Native.Nat.{◌-◌, ◌≤◌}
+use native.Mathlib.Omega.{arith}
+use Rattle.extents_replay.proofs.replay.Given as goal
+
+abbrev pub invariant-loop-case : goal.invariant-loop-case
+invariant-loop-case l = (l.agreed ≤ l.case) × (l.differed ≤ l.case)
+
+abbrev pub decreases-loop-case : goal.decreases-loop-case
+decreases-loop-case l = 1000000000 - l.case

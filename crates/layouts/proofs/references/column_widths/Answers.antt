@@ -1,0 +1,30 @@
+use mathlib.Core.Path.{refl}
+use Rattle.layouts.specs.Columns.{tables}
+use Rattle.layouts.proofs.Lists.{◌▸◌}
+use Rattle.layouts.proofs.references.column_widths.Goals as goal
+
+-- cK is the place after the call for column K.
+pub returns : goal.returns
+unfolding tables
+returns c = c.wide.ensures ▸
+    c.wide-2.ensures ▸
+    c.wide-3.ensures ▸
+    refl ▸
+    c.wide-4.ensures ▸
+    c.wide-5.ensures ▸
+    c.wide-6.ensures ▸
+    c.wide-7.ensures ▸
+    c.wide-8.ensures ▸
+    refl ▸
+    refl ▸
+    refl ▸
+    refl ▸
+    c.wide-9.ensures ▸
+    c.wide-10.ensures ▸
+    refl ▸
+    refl ▸
+    refl ▸
+    refl ▸
+    c.wide-11.ensures ▸
+    c.wide-12.ensures ▸
+    refl

@@ -1,0 +1,11 @@
+use mathlib.Core.Path.{◌≡◌, ◌∙◌}
+use Prim.Native.Nat.{◌-◌}
+use borrow.Rule.Slice.PartMut.{put_mid, same_len_mid}
+use lib.ListN.{length}
+use borrow.Author.Rules.{rules}
+use Rattle.listing.proofs.write_long.Goals as goal
+
+pub slice_bounds-cut-end : goal.slice_bounds-cut-end
+slice_bounds-cut-end c = let put : length (put_mid c.push-at.result (65537 - c.push-at.result) c.push-at.new.0 c.read_full-n.new.1.0) ≡ length c.push-at.new.0 = same_len_mid c.push-at.result (65537 - c.push-at.result) c.push-at.new.0 c.read_full-n.new.1.0 c.space-4-1.given in
+    let long : length c.push-at.new.0 ≡ 65537 = c.push-at.ensures.keeps.long ∙ search rules in
+    search (rules, put ∙ long)

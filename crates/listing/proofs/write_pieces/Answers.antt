@@ -1,0 +1,28 @@
+use mathlib.Core.Path.{◌≡◌, refl, subst}
+use lib.ListN.{length}
+use Rattle.rows.specs.Layout.{view_in}
+use Rattle.answers.specs.Known.{Knows}
+use Rattle.charges.specs.Within.{AllFit}
+use borrow.Author.Rules.{rules}
+use Rattle.listing.proofs.write_pieces.Goals as goal
+
+pub loop-turns-init : goal.loop-turns-init
+loop-turns-init c = (c.nothing_known-known.ensures _ _, refl)
+
+pub shape_of-space-then-is_done : goal.shape_of-space-then-is_done
+shape_of-space-then-is_done c = search (rules, c.loop-turns.invariant.1)
+
+pub returns-then-is_done : goal.returns-then-is_done
+returns-then-is_done c = tt
+
+pub write_piece-written-requires : goal.write_piece-written-requires
+write_piece-written-requires c = record { laid = c.requires.laid; by_index = c.requires.by_index; knows = c.loop-turns.invariant.0; all_fit = λ e. subst AllFit (c.requires.by_index _ _) (c.all_within-all.ensures _ e) }
+
+pub returns-then-not-written : goal.returns-then-not-written
+returns-then-not-written c = tt
+
+pub loop-turns-preserved : goal.loop-turns-preserved
+loop-turns-preserved c = (c.write_piece-written.ensures, search (rules, c.loop-turns.invariant.1))
+
+pub returns : goal.returns
+returns c = tt

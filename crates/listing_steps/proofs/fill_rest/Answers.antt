@@ -1,0 +1,64 @@
+use mathlib.Core.Bool.{true, false}
+use Rattle.lines.specs.Cursors.{is_over_at}
+use mathlib.Core.Path.{◌≡◌, refl, sym, ◌∙◌}
+use mathlib.Core.List.{List}
+use Prim.Native.Nat.{ℕ, ◌+◌, ◌<◌, ◌≤◌}
+use native.Mathlib.Omega.{arith}
+use lib.ListN.{length}
+use Rattle.numbers.proofs.Parts.{cut-is}
+use Rattle.record.specs.View.{view}
+use Rattle.rows.specs.Layout.{view_in}
+use Rattle.answers.specs.Known.{Knows}
+use Rattle.lines.specs.Lines.{line_room}
+use Rattle.listing_steps.specs.Filling.{Piece, Going}
+use Rattle.listing_steps.proofs.Filling.{going-out, going_done, made-long, made_inside, moved-full, moved_on, moved-short}
+use borrow.Author.Rules.{rules}
+use Rattle.listing_steps.proofs.fill_rest.Goals as goal
+
+pub loop-left-init : goal.loop-left-init
+loop-left-init c = (λ p b g s. (g, s), c.requires.by_index.1.0, refl, omega arith, refl, c.requires.by_index.1.1.1)
+
+pub returns-then-is_done : goal.returns-then-is_done
+returns-then-is_done c = let inv = c.loop-left.invariant in
+    (λ d b h. going-out (going_done (inv.0 _ _ h.going h.room).0 c.is_done.ensures c.if-is_done.true) (omega arith), inv.1)
+
+pub slice_bounds-fill_some-end : goal.slice_bounds-fill_some-end
+slice_bounds-fill_some-end c = search (rules, c.loop-left.invariant.4)
+
+pub fill_some-one-requires : goal.fill_some-one-requires
+fill_some-one-requires c = let start = c.requires in
+    record { laid = start.0; by_index = start.1.0; knows = c.loop-left.invariant.1; all_fit = start.1.1.1.0; next_value = c.loop-left.invariant.5; left_nonzero = omega arith; at_in_bounds = omega arith }
+
+pub returns-then-out-after : goal.returns-then-out-after
+returns-then-out-after c = let inv = c.loop-left.invariant in
+    let one = c.fill_some-one.ensures in
+    let undone = sym c.is_done.ensures ∙ c.if-is_done.false in
+    let is = (cut-is _ _ _ _ (made_inside one.0 inv.3 undone) c.cut.ensures).bytes in (
+      λ d b h.
+          let x = inv.0 _ _ h.going h.room in
+          going-out (moved-full one.0 inv.3 x.0 (x.1 c.loop-left-test.true) undone is c.push-after.ensures c.if-out-after.true) (omega arith),
+      inv.1,
+    )
+
+pub loop-left-preserved : goal.loop-left-preserved
+loop-left-preserved c = let inv = c.loop-left.invariant in
+    let one = c.fill_some-one.ensures in
+    let more = c.loop-left-test.true in
+    let undone = sym c.is_done.ensures ∙ c.if-is_done.false in
+    let is = (cut-is _ _ _ _ (made_inside one.0 inv.3 undone) c.cut.ensures).bytes in
+    let pushed = c.push-after.ensures in (
+      λ p b g s.
+          let x = inv.0 p b g s in (
+            moved_on one.0 inv.3 x.0 (x.1 more) undone is pushed more c.is_done.ensures c.if-is_done.false c.if-out-after.false,
+            λ h. moved-short one.0 inv.3 x.0 (x.1 more) undone is pushed,
+          ),
+      one.1,
+      pushed.keeps.long ∙ inv.2,
+      omega (arith, made-long one.0 inv.3, inv.3),
+      made-long one.0 inv.3 ∙ inv.4,
+      one.0.within,
+    )
+
+pub returns : goal.returns
+returns c = let inv = c.loop-left.invariant in
+    (λ d b h. going-out (inv.0 _ _ h.going h.room).0 (omega (arith, c.loop-left-test.false)), inv.1)

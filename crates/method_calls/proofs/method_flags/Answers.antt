@@ -1,0 +1,7 @@
+use mathlib.Core.Path.{refl}
+use Rattle.buffers.specs.Replies.{value}
+use Rattle.record.proofs.Allowance.{numbered-free}
+use Rattle.method_calls.proofs.method_flags.Goals as goal
+
+pub returns : goal.returns
+returns c = numbered-free 0 (value 0) c.ask_number-asked.result.reply refl c.ask_number-asked.ensures

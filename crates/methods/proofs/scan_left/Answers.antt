@@ -1,0 +1,25 @@
+use mathlib.Core.Path.{◌≡◌, ap, ◌∙◌}
+use mathlib.Core.List.{List}
+use Prim.Native.Nat.{ℕ, ◌-◌, ◌≤◌}
+use native.Mathlib.Omega.{arith}
+use Rattle.record.specs.Methods.{left_after}
+use Rattle.rows.specs.Columns as columns
+use Rattle.rows.specs.Layout.{rows_at, view_in}
+use Rattle.methods.proofs.Laws.{all_left, class-takes}
+use Rattle.methods.proofs.scan_left.Goals as goal
+
+pub loop-r-init : goal.loop-r-init
+loop-r-init c = (omega arith, omega arith, λ strings blob. all_left c.requires.laid strings blob (omega arith) c.count_rows-r.ensures c.count_rows-left.ensures)
+
+pub loop-r-preserved : goal.loop-r-preserved
+loop-r-preserved c = let l = c.loop-r in (
+      omega arith,
+      omega arith,
+      λ strings blob.
+          class-takes c.requires.laid strings blob l.r (omega arith) (omega arith) c.read_column.ensures (l.invariant.2 strings blob) c.take_from-left.ensures,
+    )
+
+pub returns : goal.returns
+returns c strings blob = let l = c.loop-r in
+    let same : l.r - 1 ≡ c.args.row - 1 = omega arith in
+    l.invariant.2 strings blob ∙ ap (left_after _) same

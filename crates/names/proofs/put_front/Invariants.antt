@@ -1,0 +1,16 @@
+use mathlib.Core.Path.{◌≡◌}
+use Prim.Native.Nat.{◌<◌}
+use native.Mathlib.Omega.{arith}
+use Rattle.backwards.proofs.Laws.{placed-from, placed-none}
+use Rattle.rows.specs.Columns as columns
+use Rattle.rows.specs.Layout.{rows_at, cell}
+use Rattle.names.proofs.Links.{asks-memory, by-nested, encloses}
+use Rattle.names.proofs.Leaves.{shown-at, shown-missing}
+use Rattle.names.proofs.Pass.{Passing, pass-start, pass-out, pass-less, pass-in, pass-full, pass-bare, pass-own, pass-none}
+use Rattle.names.proofs.put_front.Given as goal
+
+abbrev pub invariant-loop-i : goal.invariant-loop-i
+invariant-loop-i l = Passing l.tables l.layout l.strings l.initial.class.0 l.initial.buf l.floor l.end l.buf l.i l.class.0 l.p × (0 < l.i → l.i < rows_at l.layout columns.nested → cell l.tables l.layout columns.enclosing l.i ≡ l.class.0)
+
+abbrev pub decreases-loop-i : goal.decreases-loop-i
+decreases-loop-i l = l.i

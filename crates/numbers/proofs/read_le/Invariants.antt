@@ -1,0 +1,12 @@
+use mathlib.Core.Path.{◌≡◌, ◌∙◌}
+use Prim.Native.Nat.{ℕ, ◌+◌, ◌-◌, ◌≤◌}
+use native.Mathlib.Omega.{arith}
+use Rattle.numbers.specs.Fixed.{le_at}
+use Rattle.numbers.proofs.Fixed.{le-start, le-turn, le-done, le-room}
+use Rattle.numbers.proofs.read_le.Given as goal
+
+abbrev pub invariant-loop-i : goal.invariant-loop-i
+invariant-loop-i l = (l.i ≤ l.n) × (l.v ≡ le_at (l.n - l.i) l.s (l.at + l.i))
+
+abbrev pub decreases-loop-i : goal.decreases-loop-i
+decreases-loop-i l = l.i

@@ -1,0 +1,13 @@
+use mathlib.Core.Path.{sym, subst}
+use Prim.Native.Nat.{ℕ, ◌-◌, ◌<◌}
+use native.Mathlib.Omega.{arith}
+use Rattle.passing.specs.Passing.{NamesSpec}
+use Rattle.passing.proofs.Laws.{When}
+use Rattle.passing.proofs.Bounds.{suffices, nowhere-yet}
+use Rattle.passing.proofs.surely_suffices.Given as goal
+
+abbrev pub invariant-loop-i : goal.invariant-loop-i
+invariant-loop-i l = (at : ℕ) → at < l.i → NamesSpec l.sig at → ⊥
+
+abbrev pub decreases-loop-i : goal.decreases-loop-i
+decreases-loop-i l = l.n - l.i

@@ -1,0 +1,14 @@
+
+use Rattle.replay.proofs.compare_listing.Goals as goal
+
+pub loop-turns-init : goal.loop-turns-init
+loop-turns-init c = tt
+
+pub returns-then-left-eq0 : goal.returns-then-left-eq0
+returns-then-left-eq0 c = tt
+
+pub loop-turns-preserved : goal.loop-turns-preserved
+loop-turns-preserved c = tt
+
+pub returns : goal.returns
+returns c = tt

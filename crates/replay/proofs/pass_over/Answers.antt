@@ -1,0 +1,11 @@
+
+use Rattle.replay.proofs.pass_over.Goals as goal
+
+pub loop-turns-init : goal.loop-turns-init
+loop-turns-init c = tt
+
+pub loop-turns-preserved : goal.loop-turns-preserved
+loop-turns-preserved c = tt
+
+pub returns : goal.returns
+returns c = tt

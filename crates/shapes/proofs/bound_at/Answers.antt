@@ -1,0 +1,9 @@
+use Rattle.numbers.specs.Compressed.{sint}
+use Rattle.shapes.proofs.Series.{pops-over, pops-next}
+use Rattle.shapes.proofs.bound_at.Goals as goal
+
+pub returns-then-count-i : goal.returns-then-count-i
+returns-then-count-i c = pops-over sint _ _ _ _ c.if-count-i.true
+
+pub returns : goal.returns
+returns c = pops-next sint _ _ _ _ c.if-count-i.false c.read_sint.ensures.says

@@ -1,0 +1,16 @@
+use mathlib.Core.Path.{◌≡◌, refl, ◌∙◌}
+use mathlib.Core.List.{List}
+use Prim.Native.Nat.{ℕ, ◌-◌}
+use native.Mathlib.Omega.{arith}
+use lib.ListN.{length}
+use Rattle.buffers.specs.Writes.{Wrote}
+use Rattle.buffers.proofs.Writing.{wrote-over}
+use Rattle.shapes.specs.Runs.{brackets}
+use Rattle.shapes.proofs.Runs.{brackets-start, brackets-turn, brackets-done}
+use Rattle.shapes.proofs.push_brackets.Given as goal
+
+abbrev pub invariant-loop-i : goal.invariant-loop-i
+invariant-loop-i l = (length l.buf ≡ length l.initial.buf) × ((b : List ℕ) (r : ℕ) → Wrote l.buf l.k (brackets (l.count - l.i)) b r → Wrote l.initial.buf l.at (brackets l.count) b r)
+
+abbrev pub decreases-loop-i : goal.decreases-loop-i
+decreases-loop-i l = l.count - l.i

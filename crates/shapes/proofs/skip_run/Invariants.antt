@@ -1,0 +1,12 @@
+use Prim.Native.Nat.{◌-◌, ◌≤◌}
+use native.Mathlib.Omega.{arith}
+use lib.ListN.{length}
+use Rattle.shapes.specs.Runs.{Leads, ran, broke}
+use Rattle.shapes.proofs.Runs.{run-start, plain_end, past-modifier, run-vector, run-modifier, run-torn, run-other}
+use Rattle.shapes.proofs.skip_run.Given as goal
+
+abbrev pub invariant-loop-p : goal.invariant-loop-p
+invariant-loop-p l = (l.count ≤ l.p) × Leads l.sig l.pos l.count l.p
+
+abbrev pub decreases-loop-p : goal.decreases-loop-p
+decreases-loop-p l = length l.sig - l.p

@@ -1,0 +1,8 @@
+use Prim.Native.Nat.{◌-◌, ◌≤◌}
+use native.Mathlib.Omega.{arith}
+use lib.ListN.{length}
+use Rattle.heaps.proofs.Lookups.{find-within}
+use Rattle.type_vectors.proofs.run_types.Goals as goal
+
+pub overflow_add-at : goal.overflow_add-at
+overflow_add-at c = omega (arith, find-within 10 c.args.text.now c.loop-at.at (omega arith))
