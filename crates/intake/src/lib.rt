@@ -1,0 +1,28 @@
+// The bytes of standard input or of a file, read into a lent buffer.
+
+#![tactic(auto)]
+
+ghost use Rattle.std.specs.Prelude.{◌≤◌, length};
+
+use std::io::Read;
+
+// Reads until the buffer is full, the input ends or a read fails, and answers how many bytes stand at the front of the buffer.
+pub fn read_full<R: Read>(input: &mut R, buffer: &mut [u8]) -> usize
+    ensures { result ≤ length buffer.new }
+{
+    let mut done = 0;
+    while done < buffer.len() {
+        match input.read(&mut buffer[done..]) {
+            Ok(0) => {
+                break;
+            }
+            Ok(n) => {
+                done += n;
+            }
+            Err(_) => {
+                break;
+            }
+        }
+    }
+    done
+}
