@@ -12,4 +12,4 @@ pub returns : goal.returns
 unfolding has_custom_attribute
 returns c = let a = c.args in
     sized _ 5 _ _ (has_custom_attribute false) _ c.coded_index_size.ensures tt tt tt
-    ∙ ⊎_elim (λ w. few a.counts.now a.decl-security w.2.left) (λ w. rw w.left) c.else-decl_security.branch
+    ∙ ⊎_elim (λ w. few a.counts.now a.decl_security w.2.left) (λ w. rw w.left) c.else-decl_security.branch

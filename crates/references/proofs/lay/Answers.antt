@@ -112,7 +112,7 @@ returns c = let args = c.args in
     let n = args.len in
     let r = c.walk_tables-walk.result in
     let e = c.walk_tables-walk.ensures ∙ same-walk c.index_sizes-sizes.ensures _ _ _ in
-    whole o h n _ c.loop-c.invariant.1 c.loop-c.invariant.0 c.loop-c-test.false refl c.flag-2.ensures c.flag-2.ensures
+    whole o h n _ c.loop-c.invariant.1 c.loop-c.invariant.0 c.loop-c-test.false refl c.flag.ensures c.flag-2.ensures
     (entire-is o h n r e constant refl c.entire_rows.ensures)
     (entire-is o h n r e custom_attribute refl c.entire_rows-2.ensures)
     (entire-is o h n r e module_ref refl c.entire_rows-3.ensures)

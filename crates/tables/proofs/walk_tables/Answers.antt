@@ -12,26 +12,21 @@ use Rattle.tables.proofs.WalkLoop.{Walking, begin, ended, skipped, unknown, cut,
 use Rattle.tables.proofs.walk_tables.Goals as goal
 
 abbrev size_in : List ℕ → ℕ → ℕ
-
 size_in row-sizes k = get_or row-sizes k 0
 
 -- The row sizes that the code found are those of the definition, also past the last known table.
 sizes-are : (w : IndexSizes) (row-sizes : List ℕ) → row-sizes ≡ map (sum_of (width_in w)) tables → size_in row-sizes ≡ row_size (width_in w)
-
 unfolding row_size sum_of
-
 sizes-are w row-sizes e = fun_ext λ k. rw e (map_at (sum_of (width_in w)) [] tables k)
 
 walked-are :
     (w : IndexSizes) (row-sizes : List ℕ) → row-sizes ≡ map (sum_of (width_in w)) tables → (counts : List ℕ) (len first : ℕ)
     → walked (size_in row-sizes) counts len first ≡ walked (row_size (width_in w)) counts len first
-
 walked-are w row-sizes e counts len first = ap (λ (size : ℕ → ℕ). walked size counts len first) (sizes-are w row-sizes e)
 
 size-some :
     (w : IndexSizes) (row-sizes : List ℕ) → row-sizes ≡ map (sum_of (width_in w)) tables → ((k : ℕ) → k < 45 → 0 < row_size (width_in w) k)
     → (kind : ℕ) → kind < 45 → 0 < size_in row-sizes kind
-
 size-some w row-sizes e some kind h = omega (arith, some kind h, ap (λ (size : ℕ → ℕ). size kind) (sizes-are w row-sizes e))
 
 pub loop-kind-init : goal.loop-kind-init

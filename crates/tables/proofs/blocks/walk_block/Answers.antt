@@ -10,7 +10,6 @@ use Rattle.tables.proofs.blocks.walk_block.Goals as goal
 
 -- A byte that was read is some, where its number is.
 is_some : {x r : ℕ} → (r ≡ x) × (r < 256) → 0 < x → 0 < r
-
 is_some e h = omega (arith, e.0)
 
 pub loop-kind-init : goal.loop-kind-init
