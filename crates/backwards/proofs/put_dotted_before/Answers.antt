@@ -11,7 +11,7 @@ pub put_before-requires : goal.put_before-requires
 put_before-requires c = (omega arith, simp length-set (omega arith))
 
 pub shape_of-buf : goal.shape_of-buf
-shape_of-buf c = simp length-set at c.put_before.auto.0
+shape_of-buf c = simp length-set at c.put_before.auto.buf
 
 pub returns : goal.returns
 returns c = let called = c.put_before in
