@@ -12,4 +12,4 @@ pub returns : goal.returns
 returns c = λ e.
     eight-without _ _ _ (omega (arith, c.if-s-at-lt-TURN.false, c.if-s-at.false)) c.ranges.x.fits
     (λ j. (c.shared_slice_known-1.given j).fits) c.read_eight.ensures c.wrapping_sub_u64.type_inv
-    c.wrapping_sub_u64.ensures (eqb-true _ _ e)
+    c.wrapping_sub_u64.ensures.value (eqb-true _ _ e)
