@@ -8,7 +8,8 @@ use Rattle.bases.proofs.Laws.{candidate-extended, candidate-own, candidate-past}
 use Rattle.bases.proofs.candidate_at.Goals as goal
 
 pub read_column-extended-requires : goal.read_column-extended-requires
-read_column-extended-requires c = let known = c.requires.lt_row.0 in
+read_column-extended-requires c =
+    let known = c.requires.lt_row.0 in
     record { laid = c.requires.laid; column_lt_count = (omega arith, omega (arith, c.wide-place.ensures.0, known.0, known.1, same_rows c.requires.laid columns.type_name columns.extends (omega arith) (omega arith) refl)) }
 
 pub returns-then-i-eq0 : goal.returns-then-i-eq0
@@ -22,7 +23,8 @@ pub read_column-interface-requires : goal.read_column-interface-requires
 read_column-interface-requires c = record { laid = c.requires.laid; column_lt_count = (omega arith, (interfaces-found c.requires.laid [] [] _ _ _ c.find_key_from.ensures c.in-At.is).1) }
 
 pub overflow_add-result : goal.overflow_add-result
-overflow_add-result c = let found = interfaces-found c.requires.laid [] [] _ _ _ c.find_key_from.ensures c.in-At.is in
+overflow_add-result c =
+    let found = interfaces-found c.requires.laid [] [] _ _ _ c.find_key_from.ensures c.in-At.is in
     record { fits = omega (arith, found.0, rows-narrow c.requires.laid columns.impl_class (omega arith)) }
 
 pub returns-in-At : goal.returns-in-At

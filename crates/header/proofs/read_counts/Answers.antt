@@ -9,11 +9,13 @@ pub loop-m-init : goal.loop-m-init
 loop-m-init c = begin _ _ _ c.requires.0
 
 pub read_four-n-requires : goal.read_four-n-requires
-read_four-n-requires c = let k = some_left _ _ _ _ _ _ c.loop-m.invariant c.loop-m-test.true _ c.requires.0 c.ranges.mask.fits in
+read_four-n-requires c =
+    let k = some_left _ _ _ _ _ _ c.loop-m.invariant c.loop-m-test.true _ c.requires.0 c.ranges.mask.fits in
     room _ _ _ _ _ _ c.loop-m.invariant k c.if-m-eq1.true c.requires.1
 
 pub returns-then-limit-n : goal.returns-then-limit-n
-returns-then-limit-n c = let k = some_left _ _ _ _ _ _ c.loop-m.invariant c.loop-m-test.true _ c.requires.0 c.ranges.mask.fits in
+returns-then-limit-n c =
+    let k = some_left _ _ _ _ _ _ c.loop-m.invariant c.loop-m-test.true _ c.requires.0 c.ranges.mask.fits in
     record {
       tells = over _ _ _ _ _ _ c.loop-m.invariant k c.if-m-eq1.true _ c.read_four-n.ensures c.if-limit-n.true;
       all = λ e. let z : ◌≡◌ {A = ℕ} 0 1 = cc in absurd (omega arith);
@@ -26,7 +28,8 @@ pub bounds-counts-kind : goal.bounds-counts-kind
 bounds-counts-kind c = some_left _ _ _ _ _ _ c.loop-m.invariant c.loop-m-test.true _ c.requires.0 c.ranges.mask.fits
 
 pub overflow_add-at : goal.overflow_add-at
-overflow_add-at c = let k = some_left _ _ _ _ _ _ c.loop-m.invariant c.loop-m-test.true _ c.requires.0 c.ranges.mask.fits in
+overflow_add-at c =
+    let k = some_left _ _ _ _ _ _ c.loop-m.invariant c.loop-m-test.true _ c.requires.0 c.ranges.mask.fits in
     omega (arith, room _ _ _ _ _ _ c.loop-m.invariant k c.if-m-eq1.true c.requires.1)
 
 pub overflow_add-kind : goal.overflow_add-kind

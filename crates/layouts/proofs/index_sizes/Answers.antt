@@ -9,7 +9,8 @@ use Rattle.layouts.proofs.index_sizes.Goals as goal
 
 pub returns : goal.returns
 unfolding index_sizes bit_at
-returns c = let byte = c.ranges.heap.fits in
+returns c =
+    let byte = c.ranges.heap.fits in
     made _
     (omega (arith, c.heap_index_size.ensures, heap-widths _ 0 byte (lit< tt)))
     (omega (arith, c.heap_index_size-2.ensures, heap-widths _ 1 byte (lit< tt)))

@@ -3,7 +3,8 @@ use Rattle.listing_steps.proofs.Beginning.{stop-next, number-next, name-next, do
 use Rattle.listing_steps.proofs.next_line.Goals as goal
 
 pub name_line-requires : goal.name_line-requires
-name_line-requires c = let start = c.requires in
+name_line-requires c =
+    let start = c.requires in
     let same = start.1.0 in
     let begun = c.begin_line.ensures in
     let told = c.in-Name.is in
@@ -13,11 +14,13 @@ pub returns-in-Stop : goal.returns-in-Stop
 returns-in-Stop c = (stop-next _ c.begin_line.ensures _ c.in-Stop.is c.stop_line-step.ensures, c.requires.by_index.1.0)
 
 pub returns-in-Number : goal.returns-in-Number
-returns-in-Number c = let line = c.number_line.ensures in
+returns-in-Number c =
+    let line = c.number_line.ensures in
     (number-next _ c.begin_line.ensures (c.requires.by_index.0 _ _) c.in-Number.is line.0, line.1)
 
 pub returns-in-Name : goal.returns-in-Name
-returns-in-Name c = let line = c.name_line.ensures in
+returns-in-Name c =
+    let line = c.name_line.ensures in
     (name-next _ c.begin_line.ensures (c.requires.by_index.0 _ _) c.in-Name.is line.0, line.1)
 
 pub returns-in-Done : goal.returns-in-Done

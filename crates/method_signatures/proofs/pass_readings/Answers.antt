@@ -11,7 +11,8 @@ pub loop-reader-init : goal.loop-reader-init
 loop-reader-init c = pay-start _ _ _ _
 
 pub returns-then-alone : goal.returns-then-alone
-returns-then-alone c = let l = c.loop-reader in
+returns-then-alone c =
+    let l = c.loop-reader in
     let a = c.args in
     let v = view_in a.tables.now a.layout.now a.strings.now a.blob.now in
     let next = c.next_in_mode.ensures a.strings.now a.blob.now in
@@ -21,7 +22,8 @@ returns-then-alone c = let l = c.loop-reader in
     (pay-end v a.m (pay-more v a.m l.invariant is c.pass_by.ensures c.in-Left.is alone) refl)
 
 pub loop-reader-smaller : goal.loop-reader-smaller
-loop-reader-smaller c = let l = c.loop-reader in
+loop-reader-smaller c =
+    let l = c.loop-reader in
     let a = c.args in
     let v = view_in a.tables.now a.layout.now a.strings.now a.blob.now in
     let next = c.next_in_mode.ensures a.strings.now a.blob.now in
@@ -29,7 +31,8 @@ loop-reader-smaller c = let l = c.loop-reader in
     omega (arith, on.0, on.1)
 
 pub loop-reader-preserved : goal.loop-reader-preserved
-loop-reader-preserved c = let l = c.loop-reader in
+loop-reader-preserved c =
+    let l = c.loop-reader in
     let a = c.args in
     let v = view_in a.tables.now a.layout.now a.strings.now a.blob.now in
     let next = c.next_in_mode.ensures a.strings.now a.blob.now in
@@ -38,7 +41,8 @@ loop-reader-preserved c = let l = c.loop-reader in
     pay-more v a.m l.invariant is c.pass_by.ensures c.in-Left.is on
 
 pub returns-in-Spent : goal.returns-in-Spent
-returns-in-Spent c = let l = c.loop-reader in
+returns-in-Spent c =
+    let l = c.loop-reader in
     let a = c.args in
     let v = view_in a.tables.now a.layout.now a.strings.now a.blob.now in
     let next = c.next_in_mode.ensures a.strings.now a.blob.now in
@@ -47,7 +51,8 @@ returns-in-Spent c = let l = c.loop-reader in
     (pay-spent v a.m l.invariant is c.pass_by.ensures c.in-Spent.is)
 
 pub returns-in-Nobody : goal.returns-in-Nobody
-returns-in-Nobody c = let l = c.loop-reader in
+returns-in-Nobody c =
+    let l = c.loop-reader in
     let a = c.args in
     let v = view_in a.tables.now a.layout.now a.strings.now a.blob.now in
     let is = read-by-none v a.m (c.next_in_mode.ensures a.strings.now a.blob.now) c.in-Nobody.is in

@@ -12,7 +12,8 @@ pub loop-r-init : goal.loop-r-init
 loop-r-init c = (omega arith, omega arith, λ strings blob. all_left c.requires.laid strings blob (omega arith) c.count_rows-r.ensures c.count_rows-left.ensures)
 
 pub loop-r-preserved : goal.loop-r-preserved
-loop-r-preserved c = let l = c.loop-r in (
+loop-r-preserved c =
+    let l = c.loop-r in (
       omega arith,
       omega arith,
       λ strings blob.
@@ -20,6 +21,7 @@ loop-r-preserved c = let l = c.loop-r in (
     )
 
 pub returns : goal.returns
-returns c strings blob = let l = c.loop-r in
+returns c strings blob =
+    let l = c.loop-r in
     let same : l.r - 1 ≡ c.args.row - 1 = omega arith in
     l.invariant.2 strings blob ∙ ap (left_after _) same

@@ -40,7 +40,8 @@ returns-then-section-at c = λ blob.
     unfit (wrote.keeps.long ∙ l.invariant.0) l.invariant.1 (fill-over (l.invariant.2 blob) (omega (arith, count, less)) is wrote c.if-section-at.true) c.refuse-then-section-at.ensures
 
 pub loop-c-preserved : goal.loop-c-preserved
-loop-c-preserved c = let l = c.loop-c in
+loop-c-preserved c =
+    let l = c.loop-c in
     let less = c.loop-c-test.true in
     let count = c.count_classes-classes.ensures in
     let slot = c.push_slot-at.ensures in (

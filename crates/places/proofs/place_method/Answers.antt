@@ -10,7 +10,8 @@ pub class_row-requires : goal.class_row-requires
 class_row-requires c = (rows-narrow c.requires columns.type_name (omega arith), c.requires.size)
 
 pub own_methods-own-requires : goal.own_methods-own-requires
-own_methods-own-requires c = let at = class-found c.class_row.ensures c.in-Row.is in
+own_methods-own-requires c =
+    let at = class-found c.class_row.ensures c.in-Row.is in
     record { laid = c.requires; lt_row = (omega (arith, at.0), omega (arith, at.0, at.1, same_rows c.requires columns.type_name columns.method_list (omega arith) (omega arith) refl)) }
 
 pub returns-in-Row : goal.returns-in-Row

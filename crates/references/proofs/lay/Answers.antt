@@ -29,12 +29,14 @@ pub bounds-walk-kind : goal.bounds-walk-kind
 bounds-walk-kind c = kind-below reference_columns refl _ c.column_kinds-kinds.ensures _
 
 pub overflow_add-first : goal.overflow_add-first
-overflow_add-first c = let s = start-within _ _ _ _ c.requires.first_le_len.0 c.walk_tables-walk.result c.walk_tables-walk.ensures (get_or c.column_kinds-kinds.result c.loop-c.c 0) in
+overflow_add-first c =
+    let s = start-within _ _ _ _ c.requires.first_le_len.0 c.walk_tables-walk.result c.walk_tables-walk.ensures (get_or c.column_kinds-kinds.result c.loop-c.c 0) in
     let w = c.wide.ensures.1 in
     omega (arith, s, c.requires.first_le_len.1)
 
 pub overflow_cast-layout-in-loop-c : goal.overflow_cast-layout-in-loop-c
-overflow_cast-layout-in-loop-c c = let s = start-within _ _ _ _ c.requires.first_le_len.0 c.walk_tables-walk.result c.walk_tables-walk.ensures (get_or c.column_kinds-kinds.result c.loop-c.c 0) in
+overflow_cast-layout-in-loop-c c =
+    let s = start-within _ _ _ _ c.requires.first_le_len.0 c.walk_tables-walk.result c.walk_tables-walk.ensures (get_or c.column_kinds-kinds.result c.loop-c.c 0) in
     let w = c.wide.ensures.1 in
     omega (arith, s, c.requires.first_le_len.1)
 
@@ -70,7 +72,8 @@ bounds-layout-at-in-loop-c-4 c = simp length-set (omega (arith, c.loop-c-test.tr
 
 pub loop-c-preserved : goal.loop-c-preserved
 unfolding walk_by
-loop-c-preserved c = let here = c.loop-c-test.true in
+loop-c-preserved c =
+    let here = c.loop-c-test.true in
     let d₀ = reference_column columns.count in
     let k = read_at (λ x. x.kind) reference_columns d₀ _ c.column_kinds-kinds.ensures _ here in
     let w = c.index_sizes-sizes.ensures in
@@ -106,7 +109,8 @@ shape_of-layout c = simp length-set (c.loop-c.invariant.1.long ∙ sym (ap lengt
 
 pub returns : goal.returns
 unfolding walk_by only_entire
-returns c = let args = c.args in
+returns c =
+    let args = c.args in
     let o = args.options in
     let h : Header = record { answer = Ready; heap = args.heap; first = args.first; counts = args.counts.now } in
     let n = args.len in

@@ -22,7 +22,8 @@ pub returns-then-buf-k : goal.returns-then-buf-k
 returns-then-buf-k c = c.loop-i.invariant.1 _ _ (wrote-over _ _ _ (omega (arith, c.if-buf-k.true)))
 
 pub loop-i-preserved : goal.loop-i-preserved
-loop-i-preserved c = let l = c.loop-i in
+loop-i-preserved c =
+    let l = c.loop-i in
     let comma = c.push_comma-next.ensures in
     let dim = c.push_dim-k.ensures in (
       dim.keeps.long ∙ comma.keeps.long ∙ l.invariant.0,

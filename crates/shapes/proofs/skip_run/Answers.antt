@@ -12,14 +12,16 @@ pub overflow_add-count : goal.overflow_add-count
 overflow_add-count c = omega (arith, c.loop-p.invariant.0)
 
 pub loop-p-preserved-in-Vector : goal.loop-p-preserved-in-Vector
-loop-p-preserved-in-Vector c = let l = c.loop-p in
+loop-p-preserved-in-Vector c =
+    let l = c.loop-p in
     (omega (arith, l.invariant.0), run-vector c.read_tag.ensures l.invariant.1 c.in-Vector.is)
 
 pub loop-p-smaller : goal.loop-p-smaller
 loop-p-smaller c = omega (arith, past-modifier c.read_tag.ensures c.in-Modifier.is)
 
 pub loop-p-preserved : goal.loop-p-preserved
-loop-p-preserved c = let e = c.in-Modifier.is in
+loop-p-preserved c =
+    let e = c.in-Modifier.is in
     let t = c.read_tag.ensures in
     let l = c.loop-p in
     (omega (arith, l.invariant.0, past-modifier t e), run-modifier t l.invariant.1 e)

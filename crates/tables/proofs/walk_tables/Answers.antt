@@ -34,12 +34,14 @@ pub whole_rows-whole-requires : goal.whole_rows-whole-requires
 whole_rows-whole-requires c = size-some _ _ c.row_sizes-row_sizes.ensures c.requires.by_index _ c.if-kind-ge45.false
 
 pub overflow_mul-at : goal.overflow_mul-at
-overflow_mul-at c = let h = room _ _ _ _ _ _ _ _ _ c.loop-kind.invariant c.if-kind-ge64.false c.if-n-gt0.true c.if-kind-ge45.false _ _ refl c.whole_rows-whole.ensures
+overflow_mul-at c =
+    let h = room _ _ _ _ _ _ _ _ _ c.loop-kind.invariant c.if-kind-ge64.false c.if-n-gt0.true c.if-kind-ge45.false _ _ refl c.whole_rows-whole.ensures
     (size-some _ _ c.row_sizes-row_sizes.ensures c.requires.by_index _ c.if-kind-ge45.false) c.if-whole-n.false in
     rw (c.wide.ensures.0, c.wide-then-n-gt0.ensures.0) (omega (arith, h, c.loop-kind.invariant.within, c.ranges.len))
 
 pub overflow_add-at : goal.overflow_add-at
-overflow_add-at c = let h = room _ _ _ _ _ _ _ _ _ c.loop-kind.invariant c.if-kind-ge64.false c.if-n-gt0.true c.if-kind-ge45.false _ _ refl c.whole_rows-whole.ensures
+overflow_add-at c =
+    let h = room _ _ _ _ _ _ _ _ _ c.loop-kind.invariant c.if-kind-ge64.false c.if-n-gt0.true c.if-kind-ge45.false _ _ refl c.whole_rows-whole.ensures
     (size-some _ _ c.row_sizes-row_sizes.ensures c.requires.by_index _ c.if-kind-ge45.false) c.if-whole-n.false in
     rw (c.wide.ensures.0, c.wide-then-n-gt0.ensures.0) (omega (arith, h, c.loop-kind.invariant.within, c.ranges.len))
 

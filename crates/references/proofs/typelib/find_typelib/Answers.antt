@@ -17,12 +17,15 @@ pub is_typelib-requires : goal.is_typelib-requires
 is_typelib-requires c = record { laid = c.requires; i_bound = omega (arith, c.loop-row.invariant.1, c.loop-row-test.true) }
 
 pub returns-then-is_typelib : goal.returns-then-is_typelib
-returns-then-is_typelib c = let l = c.loop-row in
+returns-then-is_typelib c =
+    let l = c.loop-row in
     (omega (arith, l.invariant.1, c.loop-row-test.true), sym (c.is_typelib.ensures []) ∙ c.if-is_typelib.true, l.invariant.2)
 
 pub loop-row-preserved : goal.loop-row-preserved
-loop-row-preserved c = let l = c.loop-row in
+loop-row-preserved c =
+    let l = c.loop-row in
     (omega arith, l.invariant.1, below_more _ _ l.invariant.2 (sym (c.is_typelib.ensures []) ∙ c.if-is_typelib.false))
 
 pub returns : goal.returns
-returns c j h = let l = c.loop-row in l.invariant.2 j (omega (arith, l.invariant.1, c.loop-row-test.false))
+returns c j h =
+    let l = c.loop-row in l.invariant.2 j (omega (arith, l.invariant.1, c.loop-row-test.false))
