@@ -1,4 +1,3 @@
-
 use Rattle.answer_lines.proofs.number_line.Goals as goal
 
 pub returns : goal.returns

@@ -1,4 +1,3 @@
-
 use Rattle.answers.proofs.tell_name.Goals as goal
 
 pub returns-in-ClassName : goal.returns-in-ClassName

@@ -1,4 +1,3 @@
-
 use Rattle.charges.proofs.tally_method.Goals as goal
 
 pub returns : goal.returns

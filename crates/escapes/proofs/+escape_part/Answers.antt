@@ -1,6 +1,6 @@
-use Rattle.std.proofs.Common.{◌≡◌, ℕ, ◌+◌, ◌-◌, ◌*◌, ◌<◌, ◌≤◌, length, ◌∙◌, arith, rules}
+use Rattle.std.proofs.Common.{◌+◌, ◌-◌, ◌*◌, ◌≤◌, length, arith, rules}
 use Rattle.numbers.proofs.Parts.{cut-is}
-use Rattle.escapes.proofs.Writing.{in-set, below-eight, marked, marked-kept, marked-part, copied-wrote, made_inside, space-wrote}
+use Rattle.escapes.proofs.Writing.{below-eight, marked-kept, marked-part, copied-wrote, made_inside, space-wrote}
 use Rattle.escapes.proofs.+escape_part.Goals as goal
 
 pub returns-then-out-end : goal.returns-then-out-end
@@ -17,7 +17,7 @@ pub returns : goal.returns
 returns t c =
     let a = c.args in
     let room : a.end + (2 * (a.end - a.start) + 16) + 8 ≤ length c.copy_away.new.out =
-            omega (arith, c.copy_away.ensures.0.long, c.if-out-end.false, c.requires.0, c.requires.1)
+    omega (arith, c.copy_away.ensures.0.long, c.if-out-end.false, c.requires.0, c.requires.1)
     in
     copied-wrote _ _ _ _ c.requires.0 c.requires.1 (marked-kept _ _ _ _ c.requires.0 c.copy_away.ensures.0)
     (marked-part _ _ _ _ _ c.requires.0 (below-eight room) c.copy_away.ensures.1) c.write_anew.ensures

@@ -1,5 +1,5 @@
-use Rattle.std.proofs.Common.{◌-◌, arith, rules}
-use Rattle.escapes.proofs.Writing.{Away, away-start, at_most, next-most, away-turn, away-done}
+use Rattle.std.proofs.Common.{◌-◌, arith}
+use Rattle.escapes.proofs.Writing.{away-start, at_most, next-most, away-turn, away-done}
 use Rattle.escapes.proofs.copy_away.Goals as goal
 
 pub loop-i-init : goal.loop-i-init

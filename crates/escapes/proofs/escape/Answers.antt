@@ -1,7 +1,4 @@
-use Rattle.std.proofs.Common.{ℕ, ◌-◌, ◌≤◌, List, ◌∙◌, arith, rules}
-use borrow.Author.Tests.{not-false}
-use Rattle.buffers.specs.Writes.{Kept}
-use Rattle.escapes.specs.Escapes.{Stands}
+use Rattle.std.proofs.Common.{◌-◌, ◌∙◌, arith}
 use Rattle.escapes.proofs.Writing.{stands-none, stands-eight, stands-more, stands-done, stands-then}
 use Rattle.escapes.proofs.escape.Goals as goal
 

@@ -1,4 +1,4 @@
-use Rattle.std.proofs.Common.{◌≡◌, ℕ, arith, rules, eqb-true}
+use Rattle.std.proofs.Common.{◌≡◌, ℕ, arith, eqb-true}
 use Rattle.escapes.proofs.Words.{stand-wrapped}
 use Rattle.escapes.proofs.stand_word.Goals as goal
 

@@ -1,10 +1,9 @@
 use mathlib.Core.Path.{◌≡◌, refl, sym, ap, ◌∙◌}
-use Prim.Native.Nat.{◌+◌, ◌-◌, ◌<◌, ◌≤◌}
+use Prim.Native.Nat.{◌-◌, ◌<◌}
 use native.Mathlib.Nat.{le_refl}
 use native.Mathlib.Omega.{arith}
 use lib.ListN.{length}
 use Rattle.numbers.specs.Compressed.{uint_says}
-use Rattle.frames.specs.Stack.{stack, Moves}
 use Rattle.frames.specs.Stack as spec
 use Rattle.frames.proofs.Turns as turns
 use mathlib.Core.Logic.{inl, inr}

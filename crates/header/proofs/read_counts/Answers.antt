@@ -1,7 +1,7 @@
 use mathlib.Core.Path.{◌≡◌}
 use Prim.Native.Nat.{ℕ, ◌-◌}
 use native.Mathlib.Omega.{arith}
-use Rattle.header.proofs.CountLoop.{Counting, begin, room, over, taken, skipped, some_left, none_left}
+use Rattle.header.proofs.CountLoop.{begin, room, over, taken, skipped, some_left, none_left}
 use Rattle.header.proofs.read_counts.Goals as goal
 use Rattle.header.proofs.read_counts.Goals.{then-m-eq1+else-limit-n, else-m-eq1}
 
@@ -43,7 +43,7 @@ loop-m-preserved c =
     let i = c.loop-m.invariant in
     let k = some_left _ _ _ _ _ _ i c.loop-m-test.true _ c.requires.0 c.ranges.mask.fits in
     elim c.if-m-eq1.branch [
-        then-m-eq1+else-limit-n w ↦ rw (w.counts-is, w.at-is) (taken _ _ _ _ _ _ i k w.if-m-eq1.true _ w.read_four-n.ensures w.if-limit-n.false)
+      | then-m-eq1+else-limit-n w ↦ rw (w.counts-is, w.at-is) (taken _ _ _ _ _ _ i k w.if-m-eq1.true _ w.read_four-n.ensures w.if-limit-n.false)
       | else-m-eq1 w ↦ rw (w.counts-is, w.at-is) (skipped _ _ _ _ _ _ i k w.if-m-eq1.false)
     ]
 

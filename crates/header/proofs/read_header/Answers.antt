@@ -1,4 +1,4 @@
-use mathlib.Core.Path.{◌≡◌, ◌∙◌, sym}
+use mathlib.Core.Path.{◌∙◌, sym}
 use native.Mathlib.Omega.{arith}
 use Rattle.numbers.proofs.Bits.{ones-most}
 use Rattle.header.proofs.Cases.{end_is, is-short, is_cut, is-over, is-opened}

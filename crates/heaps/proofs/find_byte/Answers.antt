@@ -1,6 +1,5 @@
-use Rattle.std.proofs.Common.{◌≡◌, ◌+◌, ◌-◌, length, drop, refl, ◌∙◌, arith, rules}
-use Rattle.heaps.specs.Lookups.{before}
-use Rattle.heaps.proofs.Lookups.{not-not, find_past, find-end}
+use Rattle.std.proofs.Common.{◌-◌, refl, ◌∙◌, rules}
+use Rattle.heaps.proofs.Lookups.{find_past, find-end}
 use borrow.Author.Rules.{rules}
 use Rattle.heaps.proofs.find_byte.Goals as goal
 

@@ -1,5 +1,4 @@
-use Rattle.std.proofs.Common.{◌≡◌, ℕ, ◌+◌, ◌<◌, length, drop, get_or, ◌≢◌, refl, ◌∙◌, arith}
-use Rattle.heaps.specs.Lookups.{before}
+use Rattle.std.proofs.Common.{◌+◌, refl, ◌∙◌, arith}
 use Rattle.heaps.proofs.Lookups.{find-end, find-hit, find-step}
 use Rattle.heaps.proofs.find_near.Goals as goal
 

@@ -1,4 +1,4 @@
-use Rattle.std.proofs.Common.{◌≡◌, ℕ, arith, rules, eqb-true}
+use Rattle.std.proofs.Common.{◌≡◌, ℕ, arith, eqb-true}
 use Rattle.heaps.proofs.Lookups.{eight-without}
 use Rattle.heaps.proofs.none_is.Goals as goal
 

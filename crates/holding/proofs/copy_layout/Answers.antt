@@ -1,11 +1,11 @@
-use mathlib.Core.Path.{◌≡◌, refl, sym, ◌∙◌}
+use mathlib.Core.Path.{refl, sym, ◌∙◌}
 use Prim.Native.Nat.{◌-◌}
 use native.Mathlib.Omega.{arith}
-use lib.ListN.{length, length-set}
+use lib.ListN.{length-set}
 use lib.Seq.{length-take-le}
 use Rattle.numbers.proofs.Lists.{front_length, front-zero}
 use Rattle.rows.specs.Columns as columns
-use Rattle.holding.proofs.Laws.{Copying, copy_start, copy-turn, copy-end}
+use Rattle.holding.proofs.Laws.{copy_start, copy-turn, copy-end}
 use Rattle.holding.proofs.copy_layout.Goals as goal
 
 pub slice_bounds-clear_words-end-2 : goal.slice_bounds-clear_words-end-2

@@ -6,9 +6,9 @@ use Rattle.holding.proofs.hold.Goals as goal
 
 pub most-requires : goal.most-requires
 most-requires c = (
-      omega (arith, rows-narrow c.requires.laid columns.type_name (omega arith), c.count_rows-types.ensures),
-      omega (arith, rows-narrow c.requires.laid columns.method_name (omega arith), c.count_rows-methods.ensures),
-    )
+  omega (arith, rows-narrow c.requires.laid columns.type_name (omega arith), c.count_rows-types.ensures),
+  omega (arith, rows-narrow c.requires.laid columns.method_name (omega arith), c.count_rows-methods.ensures),
+)
 
 pub hold_sorted-nested_at-requires : goal.hold_sorted-nested_at-requires
 hold_sorted-nested_at-requires c =

@@ -16,6 +16,6 @@ returns c =
     λ o key k.
     let went = c.end_reply.ensures o key k in
     elim c.if-optional.branch [
-        then-optional+else-is_missing w ↦ there-goes key said w.if-optional.true (sym w.is_missing.ensures ∙ w.if-is_missing.false) went
+      | then-optional+else-is_missing w ↦ there-goes key said w.if-optional.true (sym w.is_missing.ensures ∙ w.if-is_missing.false) went
       | else-optional w ↦ always-goes key said w.if-optional.false went
     ]

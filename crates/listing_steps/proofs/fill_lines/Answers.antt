@@ -1,28 +1,18 @@
-use mathlib.Core.Path.{◌≡◌, refl, sym, ◌∙◌, subst}
+use mathlib.Core.Path.{refl, sym, ◌∙◌, subst}
 use lib.Dec.{T}
 use mathlib.Core.Bool.{false}
-use mathlib.Core.List.{List}
-use mathlib.Core.Logic.{⊎_elim}
-use Prim.Native.Nat.{ℕ, ◌<◌, ◌≤◌}
 use native.Mathlib.Omega.{arith}
-use borrow.Author.Tests.{not-false}
 use Rattle.numbers.proofs.Pick.{by-lt}
-use lib.ListN.{length}
-use Rattle.record.specs.View.{view}
-use Rattle.rows.specs.Layout.{view_in}
-use Rattle.answers.specs.Known.{Knows}
-use Rattle.lines.specs.Cursors.{is_over_at}
-use Rattle.lines.specs.declared.Cursor.{Cursor}
 use Rattle.lines.proofs.Ceiling.{all-at}
-use Rattle.listing_steps.specs.Filling.{Piece, Going}
 use Rattle.listing_steps.proofs.Filling.{going_done, going-full, going_on}
 use Rattle.listing_steps.proofs.Over.{next-within}
 use Rattle.listing_steps.proofs.fill_lines.Goals as goal
+use Rattle.listing_steps.proofs.fill_lines.Goals.{then-not-all+else-counts_anew, else-not-all}
 
 pub loop-left-init : goal.loop-left-init
 loop-left-init c =
-    let pre = c.requires.by_index.1 in
-    (λ p o g. g, refl, pre.1.1.1, omega arith, λ h. omega arith, pre.0, pre.1.1.0)
+    let pre = c.requires in
+    (λ p o g. g, refl, pre.at_in_bounds, omega arith, λ h. omega arith, pre.knows, pre.next_value)
 
 pub shape_of-out-then-is_done : goal.shape_of-out-then-is_done
 shape_of-out-then-is_done c = omega (arith, c.loop-left.invariant.1)
@@ -56,7 +46,7 @@ pub next_line-on-requires : goal.next_line-on-requires
 next_line-on-requires c =
     let inv = c.loop-left.invariant in
     let start = c.requires in
-    record { laid = start.0; by_index = start.1.0; knows = inv.5; line_room_in_bounds = omega (arith, c.if-out-at-lt-LINE_ROOM.false, inv.2); c_value = inv.6 }
+    record { laid = start.laid; by_index = start.by_index; knows = inv.5; line_room_in_bounds = omega (arith, c.if-out-at-lt-LINE_ROOM.false, inv.2); c_value = inv.6 }
 
 pub shape_of-out-then-out-end : goal.shape_of-out-then-out-end
 shape_of-out-then-out-end c = omega (arith, c.next_line-on.ensures.0.wrote.keeps.long, c.loop-left.invariant.1)
@@ -97,8 +87,10 @@ loop-left-preserved c =
       omega (arith, more, inv.3),
       λ h. absurd (omega (arith, more, inv.3, h)),
       line.1,
-      ⊎_elim (λ w. next-within _ _ line.0 inv.6 w.1.ensures w.2.left)
-          (λ w. all-at _ (c.requires.by_index.1.1.0 (not-false _ w.left)) _) c.if-not-all.branch,
+      elim c.if-not-all.branch [
+        | then-not-all+else-counts_anew w ↦ next-within _ _ line.0 inv.6 w.counts_anew.ensures w.if-counts_anew.false
+        | else-not-all w ↦ all-at _ (c.requires.all_fit w.if-not-all.false) _
+      ],
     )
 
 pub shape_of-out : goal.shape_of-out

@@ -11,7 +11,7 @@ pub fill_rest-requires : goal.fill_rest-requires
 fill_rest-requires c =
     let start = c.requires in
     let reached = c.fill_roomy-reached.ensures in
-    record { laid = start.0; by_index = start.1.0; knows = reached.1; all_fit = start.1.1.1; next_value = reached.0.within }
+    record { laid = start.laid; by_index = start.by_index; knows = reached.1; all_fit = start.all_fit; next_value = reached.0.within }
 
 pub returns : goal.returns
 returns c =

@@ -1,21 +1,13 @@
-use mathlib.Core.Path.{◌≡◌}
 use mathlib.Core.Bool.{true, false}
-use Rattle.lines.specs.Cursors.{is_over_at}
 use Rattle.lines.proofs.Ceiling.{all-at}
-use mathlib.Core.List.{[]}
 use native.Mathlib.Omega.{arith}
-use lib.ListN.{length}
-use Rattle.record.specs.View.{view}
-use Rattle.rows.specs.Layout.{view_in}
-use Rattle.answers.specs.Known.{Knows}
-use Rattle.listing_steps.specs.Filling.{piece_from, Going}
 use Rattle.listing_steps.proofs.Filling.{going_start, going-inside}
 use Rattle.listing_steps.proofs.fill_roomy.Goals as goal
 
 pub loop-r-init : goal.loop-r-init
 loop-r-init c =
-    let pre = c.requires.by_index.1 in
-    (going_start _ _ _ _, pre.0, λ e. all-at _ (pre.1 e) _)
+    let pre = c.requires in
+    (going_start _ _ _ _, pre.knows, λ e. all-at _ (pre.all_fit e) _)
 
 pub overflow_sub-out : goal.overflow_sub-out
 overflow_sub-out c = omega (arith, going-inside c.loop-r.invariant.0)
@@ -32,7 +24,7 @@ pub fill_some-r-requires : goal.fill_some-r-requires
 fill_some-r-requires c =
     let inv = c.loop-r.invariant in
     let start = c.requires in
-    record { laid = start.0; by_index = start.1.0; knows = inv.1; all_fit = start.1.1.1; next_value = inv.2; left_nonzero = c.loop-r-test.true; at_in_bounds = going-inside inv.0 }
+    record { laid = start.laid; by_index = start.by_index; knows = inv.1; all_fit = start.all_fit; next_value = inv.2; left_nonzero = c.loop-r-test.true; at_in_bounds = going-inside inv.0 }
 
 pub loop-r-smaller : goal.loop-r-smaller
 loop-r-smaller c =

@@ -5,8 +5,6 @@ use Rattle.opening.proofs.Laws.{opened-laid, opened_view}
 use Rattle.marks.proofs.Laws.{marked-view}
 use Rattle.listing_text.proofs.fill.Goals as goal
 
-)
-
 pub mark_methods-requires : goal.mark_methods-requires
 mark_methods-requires c = opened-laid c.open.ensures c.in-Ready.is
 
@@ -27,3 +25,4 @@ pub returns-in-Ready : goal.returns-in-Ready
 returns-in-Ready c = (
   c.end_piece-in-Ready.ensures _ _ c.fill_held-s.ensures,
   c.clear_words-in-Ready.ensures ∙ ap (λ (n : ℕ). replicate n 0) c.work-in-Ready-1.given,
+)

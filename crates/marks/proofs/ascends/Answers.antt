@@ -1,7 +1,6 @@
-use Prim.Native.Nat.{◌-◌, ◌≤◌}
+use Prim.Native.Nat.{◌-◌}
 use native.Mathlib.Omega.{arith}
-use Rattle.rows.specs.Layout.{cell}
-use Rattle.marks.proofs.Laws.{Rising, rising_none, rising-more, falls, tells-yes, tells-no}
+use Rattle.marks.proofs.Laws.{rising_none, rising-more, falls, tells-yes, tells-no}
 use Rattle.marks.proofs.ascends.Goals as goal
 
 pub loop-i-init : goal.loop-i-init

@@ -1,10 +1,7 @@
 use mathlib.Core.Path.{◌≡◌, ap, ◌∙◌}
-use mathlib.Core.List.{List}
-use Prim.Native.Nat.{ℕ, ◌-◌, ◌≤◌}
+use Prim.Native.Nat.{◌-◌}
 use native.Mathlib.Omega.{arith}
 use Rattle.record.specs.Methods.{left_after}
-use Rattle.rows.specs.Columns as columns
-use Rattle.rows.specs.Layout.{rows_at, view_in}
 use Rattle.methods.proofs.Laws.{all_left, class-takes}
 use Rattle.methods.proofs.scan_left.Goals as goal
 

@@ -8,4 +8,4 @@ outer_at-requires c =
     record { laid = c.requires.laid; nested = k.0; i_bound = (omega (arith, c.count_rows.ensures), k.1.1 (omega (arith, c.count_rows.ensures))) }
 
 pub returns : goal.returns
-returns c = last-of-all _ _ _ c.outer_of.result (omega (arith, c.count_rows.ensures, c.if-i-count_rows.false, c.requires.nested.1.0)) c.outer_of.ensures
+returns c = last-of-all _ _ _ c.outer_of.result (omega (arith, c.count_rows.ensures, c.if-i-count_rows.false, c.requires.i_bound.0)) c.outer_of.ensures

@@ -1,12 +1,8 @@
-use mathlib.Core.Path.{◌≡◌}
-use Prim.Native.Nat.{◌<◌}
 use native.Mathlib.Omega.{arith}
 use Rattle.backwards.proofs.Laws.{placed-from, placed-none}
-use Rattle.rows.specs.Columns as columns
-use Rattle.rows.specs.Layout.{rows_at, cell}
 use Rattle.names.proofs.Links.{asks-memory, by-nested, encloses}
 use Rattle.names.proofs.Leaves.{shown-at, shown-missing}
-use Rattle.names.proofs.Pass.{Passing, pass-start, pass-out, pass-less, pass-in, pass-full, pass-bare, pass-own, pass-none}
+use Rattle.names.proofs.Pass.{pass-start, pass-out, pass-less, pass-in, pass-full, pass-bare, pass-own, pass-none}
 use Rattle.names.proofs.put_front.Goals as goal
 
 pub memory_at-memory-requires : goal.memory_at-memory-requires
@@ -30,10 +26,10 @@ loop-i-smaller-in-From c = pass-less _ _ _ c.loop-i.invariant.0 c.next_outer.ens
 
 pub loop-i-preserved-in-From : goal.loop-i-preserved-in-From
 loop-i-preserved-in-From c = (
-      pass-in _ _ _ c.loop-i.invariant.0 c.next_outer.ensures c.in-Nested.is
-          _ (shown-at c.class_own_name.ensures c.in-At.is).0 (placed-from _ c.put_dotted.ensures c.in-From.is),
-      λ z h. encloses _ _ _ _ c.next_outer.ensures c.in-Nested.is,
-    )
+  pass-in _ _ _ c.loop-i.invariant.0 c.next_outer.ensures c.in-Nested.is
+      _ (shown-at c.class_own_name.ensures c.in-At.is).0 (placed-from _ c.put_dotted.ensures c.in-From.is),
+  λ z h. encloses _ _ _ _ c.next_outer.ensures c.in-Nested.is,
+)
 
 pub returns-in-NoRoom : goal.returns-in-NoRoom
 returns-in-NoRoom c = pass-full _ _ _ c.loop-i.invariant.0 c.next_outer.ensures c.in-Nested.is

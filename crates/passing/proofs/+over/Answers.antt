@@ -1,23 +1,19 @@
 -- The cycle of the type name, the signature type and the method signature, passed over.
 use native.Mathlib.Omega.{arith}
-use Rattle.record.specs.Types.{type, parameters}
+use Rattle.record.specs.Types.{type}
 use Rattle.signatures.specs.Environment.{env_of, env_in}
 use Rattle.passing.proofs.Laws.{passes_over, passes-failed, passes-spent}
-use Prim.Native.Nat.{ℕ, ◌+◌, ◌-◌, ◌≤◌, zero-le, suc, ◌*◌, ◌^◌, ◌<◌}
-use borrow.Author.Rules.{rules}
+use Prim.Native.Nat.{◌+◌, ◌-◌, ◌≤◌, zero-le, suc}
 use mathlib.Core.Path.{sym, ap, ◌∙◌, ◌≡◌, refl}
 use Rattle.numbers.specs.Compressed.{uint_says}
-use lib.ListN.{length, get_or}
-use Rattle.frames.specs.Stack.{whole, stack}
+use lib.ListN.{get_or}
+use Rattle.frames.specs.Stack.{stack}
 use Rattle.frames.proofs.Rendering.{more-ahead}
 use Rattle.signatures.proofs.Forms.{type-level, cut-shorter, alone-tag}
-use Rattle.passing.specs.Passing.{Passes}
-use Rattle.passing.specs.declared.Passed.{Passed}
 use Rattle.numbers.proofs.Parts.{cut-is}
 use Rattle.sig_leaves.proofs.Specs.{blob-there, blob-missing}
 use native.Mathlib.Nat.{sub-zero, le_refl, le_trans}
 use mathlib.Core.Logic.{inl, inr}
-use mathlib.Core.List.{List}
 use Rattle.passing.proofs.Forms as forms
 use Rattle.frames.proofs.Turns as turns
 use Rattle.passing.proofs.Levels as levels

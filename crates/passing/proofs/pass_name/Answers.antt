@@ -1,4 +1,3 @@
-
 use Rattle.passing.proofs.pass_name.Goals as goal
 
 pub returns : goal.returns

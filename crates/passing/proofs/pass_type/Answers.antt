@@ -1,4 +1,3 @@
-
 use Rattle.passing.proofs.pass_type.Goals as goal
 
 pub returns : goal.returns

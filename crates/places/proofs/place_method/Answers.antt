@@ -1,7 +1,6 @@
 use mathlib.Core.Path.{refl}
 use native.Mathlib.Omega.{arith}
 use Rattle.rows.specs.Columns as columns
-use Rattle.rows.specs.Layout.{view_in}
 use Rattle.rows.proofs.Laws.{rows-narrow, same_rows}
 use Rattle.places.proofs.Laws.{class-found, class-missed, listed, unlisted, owned-range, method-none}
 use Rattle.places.proofs.place_method.Goals as goal

@@ -1,5 +1,5 @@
 use mathlib.Core.Path.{refl, sym, ap, ◌∙◌}
-use Prim.Native.Nat.{◌*◌, ◌-◌, ◌≤◌}
+use Prim.Native.Nat.{◌-◌}
 use native.Mathlib.Omega.{arith}
 use lib.ListN.{length, get_or, length-set}
 use Rattle.header.specs.declared.Header.{Header}
@@ -12,7 +12,7 @@ use Rattle.tables.proofs.Outcome.{same-walk}
 use Rattle.references.specs.Columns as columns
 use Rattle.references.specs.Layout.{layout_of}
 use Rattle.opening.proofs.Starts.{start-within}
-use Rattle.opening.proofs.Filling.{Filled, empty, turn, read_at, kind-below, first-is, low-is, high_is, step_is, width_is, kept-is}
+use Rattle.opening.proofs.Filling.{empty, turn, read_at, kind-below, first-is, low-is, high_is, step_is, width_is, kept-is}
 use Rattle.references.proofs.Laying.{layout-at, entire-is, whole}
 use Rattle.references.proofs.lay.Goals as goal
 

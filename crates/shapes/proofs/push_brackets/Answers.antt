@@ -1,11 +1,7 @@
-use mathlib.Core.Path.{◌≡◌, refl, ◌∙◌}
-use mathlib.Core.List.{List}
-use Prim.Native.Nat.{ℕ, ◌-◌}
+use mathlib.Core.Path.{refl, ◌∙◌}
+use Prim.Native.Nat.{◌-◌}
 use native.Mathlib.Omega.{arith}
-use lib.ListN.{length}
-use Rattle.buffers.specs.Writes.{Wrote}
 use Rattle.buffers.proofs.Writing.{wrote-over}
-use Rattle.shapes.specs.Runs.{brackets}
 use Rattle.shapes.proofs.Runs.{brackets-start, brackets-turn, brackets-done}
 use Rattle.shapes.proofs.push_brackets.Goals as goal
 

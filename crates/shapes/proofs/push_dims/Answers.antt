@@ -1,15 +1,9 @@
-use mathlib.Core.Path.{◌≡◌, refl, ◌∙◌}
-use mathlib.Core.List.{List, ◌++◌}
-use Prim.Native.Nat.{ℕ, ◌-◌}
+use mathlib.Core.Path.{refl, ◌∙◌}
+use Prim.Native.Nat.{◌-◌}
 use native.Mathlib.Omega.{arith}
-use lib.ListN.{length}
 use Rattle.numbers.specs.Compressed.{uint, sint}
-use Rattle.buffers.specs.Texts.{q}
-use Rattle.buffers.specs.Writes.{Wrote}
 use Rattle.buffers.proofs.Writing.{wrote-over}
-use Rattle.record.specs.Dims.{dims}
-use Rattle.shapes.specs.Series.{numbers, items}
-use Rattle.shapes.proofs.Dims.{ahead, dims-start, dims-turn, dims-done}
+use Rattle.shapes.proofs.Dims.{dims-start, dims-turn, dims-done}
 use Rattle.shapes.proofs.push_dims.Goals as goal
 
 pub loop-i-init : goal.loop-i-init

@@ -13,7 +13,7 @@ pub returns-in-Number : goal.returns-in-Number
 returns-in-Number c =
     let lt = c.requires in
     let m : Modifies _ _ = elim c.if-tag-ne31.branch [
-        then-tag-ne31+else-tag-ne32 w ↦ tag-optional lt w.if-tag-ne32.false
+      | then-tag-ne31+else-tag-ne32 w ↦ tag-optional lt w.if-tag-ne32.false
       | else-tag-ne31 w ↦ tag-required lt w.if-tag-ne31.false
     ] in
     tag-modifier m (is_number c.read_uint.ensures c.in-Number.is)
@@ -22,7 +22,7 @@ pub returns-in-NoNumber : goal.returns-in-NoNumber
 returns-in-NoNumber c =
     let lt = c.requires in
     let m : Modifies _ _ = elim c.if-tag-ne31.branch [
-        then-tag-ne31+else-tag-ne32 w ↦ tag-optional lt w.if-tag-ne32.false
+      | then-tag-ne31+else-tag-ne32 w ↦ tag-optional lt w.if-tag-ne32.false
       | else-tag-ne31 w ↦ tag-required lt w.if-tag-ne31.false
     ] in
     tag-torn m (no_number c.read_uint.ensures c.in-NoNumber.is)

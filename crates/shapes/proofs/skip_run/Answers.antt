@@ -1,7 +1,6 @@
-use Prim.Native.Nat.{◌-◌, ◌≤◌}
+use Prim.Native.Nat.{◌-◌}
 use native.Mathlib.Omega.{arith}
-use lib.ListN.{length}
-use Rattle.shapes.specs.Runs.{Leads, ran, broke}
+use Rattle.shapes.specs.Runs.{ran, broke}
 use Rattle.shapes.proofs.Runs.{run-start, plain_end, past-modifier, run-vector, run-modifier, run-torn, run-other}
 use Rattle.shapes.proofs.skip_run.Goals as goal
 

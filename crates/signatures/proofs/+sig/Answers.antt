@@ -1,19 +1,15 @@
 -- The cycle of the type name, the signature type and the method signature, with their loops.
 use mathlib.Core.Path.{sym, ap, ◌∙◌, refl, ◌≡◌}
-use Prim.Native.Nat.{ℕ, ◌+◌, ◌*◌, ◌-◌, ◌^◌, ◌<◌, ◌≤◌, zero-le, suc}
+use Prim.Native.Nat.{◌+◌, ◌-◌, ◌<◌, ◌≤◌, zero-le, suc}
 use native.Mathlib.Omega.{arith}
-use borrow.Author.Rules.{rules}
 use Rattle.numbers.specs.Compressed.{uint_says}
-use Rattle.record.specs.Types.{type, form, look, parameters}
+use Rattle.record.specs.Types.{type, form, look}
 use Rattle.rendering.proofs.Laws.{rendered-done, rendered-failed}
 use Rattle.signatures.specs.Environment.{env_of, env_in}
-use mathlib.Core.List.{List}
-use lib.ListN.{length, get_or}
+use lib.ListN.{get_or}
 use Rattle.buffers.specs.Writes.{place_says}
 use mathlib.Core.Logic.{◌⊎◌, inl, inr, ⊎_elim}
-use Rattle.rendering.specs.Rendered.{Rendered}
-use Rattle.rendering.specs.declared.Rendering.{Rendering}
-use Rattle.frames.specs.Stack.{whole, stack}
+use Rattle.frames.specs.Stack.{stack}
 use native.Mathlib.Nat.{sub-zero, le_refl, le_trans, pos_of_ne-zero}
 use Rattle.shapes.proofs.Laws.{run-leads, run-plain, run-stops}
 use Rattle.numbers.proofs.Parts.{cut-is}

@@ -1,26 +1,12 @@
-use mathlib.Core.Path.{sym, ap, ◌∙◌, refl, ◌≡◌}
-use Prim.Native.Nat.{ℕ, ◌+◌, ◌*◌, ◌-◌, ◌^◌, ◌<◌, ◌≤◌, zero-le, suc}
-use native.Mathlib.Omega.{arith}
-use borrow.Author.Rules.{rules}
-use Rattle.numbers.specs.Compressed.{uint_says}
-use Rattle.record.specs.Types.{type, form, look, parameters}
-use Rattle.rendering.proofs.Laws.{rendered-done, rendered-failed}
-use Rattle.signatures.specs.Environment.{env_of, env_in}
+use mathlib.Core.Path.{◌≡◌}
+use Prim.Native.Nat.{ℕ, ◌+◌, ◌*◌, ◌-◌, ◌^◌, ◌≤◌}
+use Rattle.record.specs.Types.{type, parameters}
+use Rattle.signatures.specs.Environment.{env_of}
 use mathlib.Core.List.{List}
-use lib.ListN.{length, get_or}
-use Rattle.buffers.specs.Writes.{place_says}
-use mathlib.Core.Logic.{◌⊎◌, inl, inr, ⊎_elim}
+use lib.ListN.{length}
 use Rattle.rendering.specs.Rendered.{Rendered}
 use Rattle.rendering.specs.declared.Rendering.{Rendering}
 use Rattle.frames.specs.Stack.{whole, stack}
-use native.Mathlib.Nat.{sub-zero, le_refl, le_trans, pos_of_ne-zero}
-use Rattle.shapes.proofs.Laws.{run-leads, run-plain, run-stops}
-use Rattle.numbers.proofs.Parts.{cut-is}
-use Rattle.buffers.proofs.Writing.{kept_same, said-missing}
-use Rattle.sig_leaves.proofs.Specs.{blob-there, blob-missing}
-use Rattle.signatures.proofs.Forms as forms
-use Rattle.frames.proofs.Turns as turns
-use Rattle.frames.proofs.Rendering as rendering
 use Rattle.signatures.proofs.+sig.Given as goal
 
 -- Levels left, then bytes left, then which of the functions that read from one place: 17 levels of fewer than 2 ^ 67 each.

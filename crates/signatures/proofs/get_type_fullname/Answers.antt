@@ -1,4 +1,3 @@
-
 use Rattle.signatures.proofs.get_type_fullname.Goals as goal
 
 pub returns : goal.returns

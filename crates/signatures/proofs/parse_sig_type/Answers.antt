@@ -1,4 +1,3 @@
-
 use Rattle.signatures.proofs.parse_sig_type.Goals as goal
 
 pub returns : goal.returns

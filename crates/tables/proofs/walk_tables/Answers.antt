@@ -2,12 +2,11 @@ use mathlib.Core.Path.{◌≡◌, refl, ap, ◌∙◌, fun_ext}
 use mathlib.Core.List.{List, [], map}
 use Prim.Native.Nat.{ℕ, ◌-◌, ◌<◌}
 use native.Mathlib.Omega.{arith}
-use lib.ListN.{get_or}
 use Rattle.layouts.specs.Columns.{tables, width_in, sum_of, row_size}
 use Rattle.layouts.specs.declared.IndexSizes.{IndexSizes}
 use Rattle.layouts.proofs.Lists.{map_at}
 use Rattle.tables.specs.Extents.{walked}
-use Rattle.tables.proofs.WalkLoop.{Walking, begin, ended, skipped, unknown, cut, room, taken}
+use Rattle.tables.proofs.WalkLoop.{begin, ended, skipped, unknown, cut, room, taken}
 use Rattle.tables.proofs.walk_tables.Invariants.{size_in}
 use Rattle.tables.proofs.walk_tables.Goals as goal
 use Rattle.tables.proofs.walk_tables.Goals.{then-n-gt0+else-kind-ge45+else-whole-n, else-n-gt0}
@@ -47,14 +46,14 @@ overflow_add-at c =
 
 pub loop-kind-preserved : goal.loop-kind-preserved
 loop-kind-preserved c = elim c.if-n-gt0.branch [
-    then-n-gt0+else-kind-ge45+else-whole-n w ↦
-        rw (w.starts-is, w.sizes-is, w.rows-is, w.at-is, w.wide.ensures.0, w.wide-then-n-gt0.ensures.0)
-        (taken _ _ _ _ _ _ _ _ _ c.loop-kind.invariant c.if-kind-ge64.false w.if-n-gt0.true w.if-kind-ge45.false _ _ refl
-        w.whole_rows-whole.ensures (size-some _ _ c.row_sizes-row_sizes.ensures c.requires.by_index _ w.if-kind-ge45.false) w.if-whole-n.false)
+  | then-n-gt0+else-kind-ge45+else-whole-n w ↦
+      rw (w.starts-is, w.sizes-is, w.rows-is, w.at-is, w.wide.ensures.0, w.wide-then-n-gt0.ensures.0)
+      (taken _ _ _ _ _ _ _ _ _ c.loop-kind.invariant c.if-kind-ge64.false w.if-n-gt0.true w.if-kind-ge45.false _ _ refl
+      w.whole_rows-whole.ensures (size-some _ _ c.row_sizes-row_sizes.ensures c.requires.by_index _ w.if-kind-ge45.false) w.if-whole-n.false)
   | else-n-gt0 w ↦
-        rw (w.starts-is, w.sizes-is, w.rows-is, w.at-is)
-        (skipped _ _ _ _ _ _ _ _ _ c.loop-kind.invariant c.if-kind-ge64.false w.if-n-gt0.false)
-  ]
+      rw (w.starts-is, w.sizes-is, w.rows-is, w.at-is)
+      (skipped _ _ _ _ _ _ _ _ _ c.loop-kind.invariant c.if-kind-ge64.false w.if-n-gt0.false)
+]
 
 pub returns-then-kind-ge64 : goal.returns-then-kind-ge64
 returns-then-kind-ge64 c = ended _ _ _ _ _ _ _ _ _ c.loop-kind.invariant c.if-kind-ge64.true ∙ walked-are _ _ c.row_sizes-row_sizes.ensures _ _ _

@@ -1,13 +1,10 @@
-use mathlib.Core.Path.{◌≡◌, sym, ◌∙◌}
+use mathlib.Core.Path.{sym, ◌∙◌}
 use mathlib.Core.Bool.{false}
 use mathlib.Core.List.{[]}
-use Prim.Native.Nat.{ℕ, ◌-◌, ◌≤◌, ◌<◌}
+use Prim.Native.Nat.{◌-◌}
 use native.Mathlib.Omega.{arith}
 use borrow.Author.Count.{below_more}
-use lib.ListN.{get_or}
 use Rattle.record.specs.References.{is_typelib}
-use Rattle.references.specs.Columns as columns
-use Rattle.references.specs.Layout.{row_at, view_in}
 use Rattle.references.proofs.typelib.find_typelib.Goals as goal
 
 pub loop-row-init : goal.loop-row-init

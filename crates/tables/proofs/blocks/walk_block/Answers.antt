@@ -1,10 +1,7 @@
 use mathlib.Core.Path.{◌≡◌}
-use mathlib.Core.List.{List}
-use Prim.Native.Nat.{ℕ, ◌+◌, ◌*◌, ◌-◌, ◌<◌}
+use Prim.Native.Nat.{ℕ, ◌+◌, ◌-◌, ◌<◌}
 use native.Mathlib.Omega.{arith}
-use lib.ListN.{get_or}
-use Rattle.tables.specs.Extents.{in_block}
-use Rattle.tables.proofs.WalkLoop.{Walking, begin, ended, skipped, unknown, cut, room, taken}
+use Rattle.tables.proofs.WalkLoop.{begin, ended, skipped, unknown, cut, room, taken}
 use Rattle.tables.proofs.blocks.walk_block.Goals as goal
 use Rattle.tables.proofs.blocks.walk_block.Goals.{then-n-gt0+else-kind-ge45+else-whole-n, else-n-gt0}
 
@@ -32,14 +29,14 @@ overflow_add-at c =
 
 pub loop-kind-preserved : goal.loop-kind-preserved
 loop-kind-preserved c = elim c.if-n-gt0.branch [
-    then-n-gt0+else-kind-ge45+else-whole-n w ↦
-        rw (w.starts-is, w.sizes-is, w.rows-is, w.at-is, w.wide.ensures.0, w.wide-then-n-gt0.ensures.0)
-        (taken _ _ _ _ _ _ _ _ _ c.loop-kind.invariant c.if-kind-ge64.false w.if-n-gt0.true w.if-kind-ge45.false _ _ w.byte-size.ensures.0
-        w.whole_rows-whole.ensures (is_some w.byte-size.ensures (c.requires.by_index _ w.if-kind-ge45.false)) w.if-whole-n.false)
+  | then-n-gt0+else-kind-ge45+else-whole-n w ↦
+      rw (w.starts-is, w.sizes-is, w.rows-is, w.at-is, w.wide.ensures.0, w.wide-then-n-gt0.ensures.0)
+      (taken _ _ _ _ _ _ _ _ _ c.loop-kind.invariant c.if-kind-ge64.false w.if-n-gt0.true w.if-kind-ge45.false _ _ w.byte-size.ensures.0
+      w.whole_rows-whole.ensures (is_some w.byte-size.ensures (c.requires.by_index _ w.if-kind-ge45.false)) w.if-whole-n.false)
   | else-n-gt0 w ↦
-        rw (w.starts-is, w.sizes-is, w.rows-is, w.at-is)
-        (skipped _ _ _ _ _ _ _ _ _ c.loop-kind.invariant c.if-kind-ge64.false w.if-n-gt0.false)
-  ]
+      rw (w.starts-is, w.sizes-is, w.rows-is, w.at-is)
+      (skipped _ _ _ _ _ _ _ _ _ c.loop-kind.invariant c.if-kind-ge64.false w.if-n-gt0.false)
+]
 
 pub returns-then-kind-ge64 : goal.returns-then-kind-ge64
 returns-then-kind-ge64 c = ended _ _ _ _ _ _ _ _ _ c.loop-kind.invariant c.if-kind-ge64.true

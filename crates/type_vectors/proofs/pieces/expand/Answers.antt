@@ -1,8 +1,6 @@
 use native.Mathlib.Omega.{arith}
 use Rattle.heaps.proofs.Lookups.{find-within}
-use mathlib.Core.Path.{◌≡◌}
 use Prim.Native.Nat.{◌+◌, ◌-◌}
-use lib.ListN.{length}
 use Rattle.type_vectors.proofs.pieces.expand.Goals as goal
 
 pub overflow_add-at : goal.overflow_add-at
