@@ -7,8 +7,8 @@ ghost use Rattle.std.specs.Io.KnownBytes.{Consumes};
 
 use std::io::Read;
 
-// Reads until the buffer is full, the input ends or a read fails, and answers how many bytes stand at the front of the buffer: what was
-// read, and nothing else was.
+// Reads until the buffer is full, the input ends or a read fails, and answers how many bytes it has put at the front of the buffer. They are
+// those that are gone from the input, where its bytes are known.
 pub fn read_full<R: Read>(input: &mut R, buffer: &mut [u8]) -> usize
     ensures in_bounds { result ≤ length buffer.new }
     ensures bytes { Consumes (R.remaining input.old) (R.remaining input.new) (take result buffer.new) }
