@@ -11,7 +11,7 @@ use Rattle.bases.proofs.push_base.Goals as goal
 pub loop-i-init : goal.loop-i-init
 loop-i-init c =
     let from = c.bases_before-start.ensures in
-    search-start _ c.requires.lt_row (from.0 _ c.requires.knows_bases) from.1 c.wide-key.ensures.0 from.2
+    search-start _ c.requires.lt_row.0 (from.0 _ c.requires.knows_bases) from.1 c.wide-key.ensures.0 from.2
 
 pub overflow_add-i : goal.overflow_add-i
 overflow_add-i c = record { fits = omega (arith, c.count_rows-n.ensures, rows-narrow c.requires.laid columns.impl_class (omega arith)) }
@@ -46,5 +46,5 @@ returns-in-NoCandidate c =
 pub returns : goal.returns
 returns c =
     let over = search-over c.loop-i.invariant c.wide-key.ensures.0
-    (omega (arith, c.loop-i-test.false, c.count_rows-n.ensures, candidates-most c.requires.laid c.args.strings.now c.args.blob.now _ c.requires.lt_row)) in
+    (omega (arith, c.loop-i-test.false, c.count_rows-n.ensures, candidates-most c.requires.laid c.args.strings.now c.args.blob.now _ c.requires.lt_row.0)) in
     (over.0, over.1, λ _. over.2)
