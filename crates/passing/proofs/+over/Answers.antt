@@ -488,7 +488,7 @@ over_type-loop-p-preserved-then-tag-lt17 t c =
     let a = c.args in
     let e = env_of a.tables.now a.layout.now a.strings.now a.blob.now a.owners.now in
     let h = c.loop-p in
-    (omega (arith, h.invariant.0), omega (arith, h.invariant.1), λ r k. h.invariant.2 r (forms.type-deeper e a.sig.now c.loop-p-test.true c.if-deep-eq0.false c.if-have-eq0.false c.if-tag-lt15.false c.in-15.if-tag-lt17-own.true k))
+    (omega (arith, h.invariant.0), omega (arith, h.invariant.1), λ r k. h.invariant.2 r (forms.type-deeper e a.sig.now c.loop-p-test.true c.if-deep-eq0.false c.if-have-eq0.false c.in-15.if-tag-lt15-own.false c.in-15.if-tag-lt17-own.true k))
 
 pub over_type-over_class-requires : goal.over_type-over_class-requires
 over_type-over_class-requires t c = (omega (arith, c.decreases, c.loop-p.invariant.0, c.loop-p.invariant.1, c.loop-p-test.true, c.if-deep-eq0.false), c.requires)
@@ -498,16 +498,16 @@ over_type-returns-in-17 t c =
     let a = c.args in
     let e = env_of a.tables.now a.layout.now a.strings.now a.blob.now a.owners.now in
     let h = c.loop-p in
-    h.invariant.2 _ (forms.type-class e a.sig.now c.loop-p-test.true c.if-deep-eq0.false c.if-have-eq0.false c.if-tag-lt17.false c.in-17.if-tag-lt19-own.true c.over_class.ensures)
+    h.invariant.2 _ (forms.type-class e a.sig.now c.loop-p-test.true c.if-deep-eq0.false c.if-have-eq0.false c.in-17.if-tag-lt17-own.false c.in-17.if-tag-lt19-own.true c.over_class.ensures)
 
 pub over_type-returns-in-NoNumber : goal.over_type-returns-in-NoNumber
 over_type-returns-in-NoNumber t c =
     let a = c.args in
     let e = env_of a.tables.now a.layout.now a.strings.now a.blob.now a.owners.now in
     let h = c.loop-p in
-    let no = c.in_default-1.rest in
+    let no = c.in-31.in_default-own.rest in
     let no-1E : get_or a.sig.now h.p 0 ≡ 0x1E → ⊥ = λ z. no.0.0.0.1 (inr z) in
-    let lo : 0x1F ≤ get_or a.sig.now h.p 0 = omega (arith, c.if-tag-lt29.false, no.0.0.0.0.1, no-1E) in
+    let lo : 0x1F ≤ get_or a.sig.now h.p 0 = omega (arith, c.in-31.if-tag-lt29-own.false, no.0.0.0.0.1, no-1E) in
     h.invariant.2 _ (forms.type-torn e a.sig.now c.loop-p-test.true c.if-deep-eq0.false c.if-have-eq0.false lo c.in-31.if-tag-lt33-own.true (sym (ap uint_says c.in-NoNumber.is) ∙ c.read_uint.ensures))
 
 pub over_type-loop-p-smaller : goal.over_type-loop-p-smaller
@@ -523,9 +523,9 @@ over_type-loop-p-preserved t c =
     let a = c.args in
     let e = env_of a.tables.now a.layout.now a.strings.now a.blob.now a.owners.now in
     let h = c.loop-p in
-    let no = c.in_default-1.rest in
+    let no = c.in-31.in_default-own.rest in
     let no-1E : get_or a.sig.now h.p 0 ≡ 0x1E → ⊥ = λ z. no.0.0.0.1 (inr z) in
-    let lo : 0x1F ≤ get_or a.sig.now h.p 0 = omega (arith, c.if-tag-lt29.false, no.0.0.0.0.1, no-1E) in
+    let lo : 0x1F ≤ get_or a.sig.now h.p 0 = omega (arith, c.in-31.if-tag-lt29-own.false, no.0.0.0.0.1, no-1E) in
     let x = sym (ap uint_says c.in-Number.is) ∙ c.read_uint.ensures in
     (omega (arith, h.invariant.0, forms.uint-ahead a.sig.now (h.p + 1) x), h.invariant.1, λ r k. h.invariant.2 r (forms.type-modified e a.sig.now c.loop-p-test.true c.if-deep-eq0.false c.if-have-eq0.false lo c.in-31.if-tag-lt33-own.true x k))
 
@@ -534,7 +534,7 @@ over_type-returns-in_default t c =
     let a = c.args in
     let e = env_of a.tables.now a.layout.now a.strings.now a.blob.now a.owners.now in
     let h = c.loop-p in
-    let no = c.in_default-1.rest in
+    let no = c.in_default.in_default-own.rest in
     let tag = get_or a.sig.now h.p 0 in
     let x = alone-tag tag (inl c.in_default.if-tag-lt15-own.true) no.0.0.0.1 no.0.0.1 no.0.1 no.1 no.0.0.0.0.1 (λ z. absurd (omega (arith, z, c.in_default.if-tag-lt15-own.true))) (λ z. absurd (omega (arith, z, c.in_default.if-tag-lt15-own.true))) in
     h.invariant.2 _ (forms.type-unknown e a.sig.now c.loop-p-test.true c.if-deep-eq0.false c.if-have-eq0.false x (sym c.is_simple.ensures ∙ c.if-is_simple.false))
@@ -544,9 +544,9 @@ over_type-returns-in_default-2 t c =
     let a = c.args in
     let e = env_of a.tables.now a.layout.now a.strings.now a.blob.now a.owners.now in
     let h = c.loop-p in
-    let no = c.in_default-1.rest in
+    let no = c.in_default.in_default-own.rest in
     let tag = get_or a.sig.now h.p 0 in
-    let x = alone-tag tag (inr c.if-tag-lt19.false) no.0.0.0.1 no.0.0.1 no.0.1 no.1 no.0.0.0.0.1 (λ z. absurd (omega (arith, z, c.in_default.if-tag-lt29-own.true))) (λ z. absurd (omega (arith, z, c.in_default.if-tag-lt29-own.true))) in
+    let x = alone-tag tag (inr c.in_default.if-tag-lt19-own.false) no.0.0.0.1 no.0.0.1 no.0.1 no.1 no.0.0.0.0.1 (λ z. absurd (omega (arith, z, c.in_default.if-tag-lt29-own.true))) (λ z. absurd (omega (arith, z, c.in_default.if-tag-lt29-own.true))) in
     h.invariant.2 _ (forms.type-unknown e a.sig.now c.loop-p-test.true c.if-deep-eq0.false c.if-have-eq0.false x (sym c.is_simple.ensures ∙ c.if-is_simple.false))
 
 pub over_type-returns-in_default-3 : goal.over_type-returns-in_default-3
@@ -554,9 +554,9 @@ over_type-returns-in_default-3 t c =
     let a = c.args in
     let e = env_of a.tables.now a.layout.now a.strings.now a.blob.now a.owners.now in
     let h = c.loop-p in
-    let no = c.in_default-1.rest in
+    let no = c.in_default.in_default-own.rest in
     let tag = get_or a.sig.now h.p 0 in
-    let x = alone-tag tag (inr c.if-tag-lt19.false) no.0.0.0.1 no.0.0.1 no.0.1 no.1 no.0.0.0.0.1 (λ z. absurd (omega (arith, z, c.in_default.if-tag-lt33-own.false))) (λ z. absurd (omega (arith, z, c.in_default.if-tag-lt33-own.false))) in
+    let x = alone-tag tag (inr c.in_default.if-tag-lt19-own.false) no.0.0.0.1 no.0.0.1 no.0.1 no.1 no.0.0.0.0.1 (λ z. absurd (omega (arith, z, c.in_default.if-tag-lt33-own.false))) (λ z. absurd (omega (arith, z, c.in_default.if-tag-lt33-own.false))) in
     h.invariant.2 _ (forms.type-unknown e a.sig.now c.loop-p-test.true c.if-deep-eq0.false c.if-have-eq0.false x (sym c.is_simple.ensures ∙ c.if-is_simple.false))
 
 pub over_type-returns : goal.over_type-returns

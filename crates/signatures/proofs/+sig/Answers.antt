@@ -193,14 +193,14 @@ sig_form-returns-in-15 t c =
     let a = c.args in
     let e = env_of a.tables.now a.layout.now a.strings.now a.blob.now a.owners.now in
     let r = c.requires.1 in
-    forms.type-form e a.left a.sig.now a.pos (get_or a.sig.now a.pos 0) r.0 r.2 refl (forms.around-form e _ _ _ _ _ c.if-tag-lt15.false c.in-15.if-tag-lt17-own.true c.sig_around.ensures)
+    forms.type-form e a.left a.sig.now a.pos (get_or a.sig.now a.pos 0) r.0 r.2 refl (forms.around-form e _ _ _ _ _ c.in-15.if-tag-lt15-own.false c.in-15.if-tag-lt17-own.true c.sig_around.ensures)
 
 pub sig_form-returns-in-17 : goal.sig_form-returns-in-17
 sig_form-returns-in-17 t c =
     let a = c.args in
     let e = env_of a.tables.now a.layout.now a.strings.now a.blob.now a.owners.now in
     let r = c.requires.1 in
-    forms.type-form e a.left a.sig.now a.pos (get_or a.sig.now a.pos 0) r.0 r.2 refl (forms.class-form e _ _ _ _ _ c.if-tag-lt17.false c.in-17.if-tag-lt19-own.true c.sig_class.ensures)
+    forms.type-form e a.left a.sig.now a.pos (get_or a.sig.now a.pos 0) r.0 r.2 refl (forms.class-form e _ _ _ _ _ c.in-17.if-tag-lt17-own.false c.in-17.if-tag-lt19-own.true c.sig_class.ensures)
 
 pub sig_form-returns-in_default : goal.sig_form-returns-in_default
 sig_form-returns-in_default t c =
