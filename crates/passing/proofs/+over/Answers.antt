@@ -78,19 +78,19 @@ over_class-returns-in-NoNumber t c =
     forms.class-unread e T a.sig.now a.pos (sym (ap uint_says c.in-NoNumber.is) ∙ c.read_uint.ensures)
 
 pub over_few-over_level-requires : goal.over_few-over_level-requires
-over_few-over_level-requires t c = (omega (arith, c.decreases), (c.requires.0, (c.requires.1.0, c.requires.1.1, omega arith)))
+over_few-over_level-requires t c = (omega (arith, c.decreases), (c.requires.laid, (c.requires.left_nonzero.0, c.requires.left_nonzero.1, omega arith)))
 
 pub over_few-returns : goal.over_few-returns
 over_few-returns t c = c.over_level.ensures
 
 pub over_inner-over_many-requires : goal.over_inner-over_many-requires
-over_inner-over_many-requires t c = (omega (arith, c.decreases), (c.requires.0, (c.requires.1.0, c.requires.1.1 c.if-full.true)))
+over_inner-over_many-requires t c = (omega (arith, c.decreases), (c.requires.laid, (c.requires.left_nonzero.0, c.requires.left_nonzero.1 c.if-full.true)))
 
 pub over_inner-returns-then-full : goal.over_inner-returns-then-full
 over_inner-returns-then-full t c = c.over_many.ensures
 
 pub over_inner-over_next-requires : goal.over_inner-over_next-requires
-over_inner-over_next-requires t c = (omega (arith, c.decreases), c.requires.0)
+over_inner-over_next-requires t c = (omega (arith, c.decreases), c.requires.laid)
 
 pub over_inner-returns : goal.over_inner-returns
 over_inner-returns t c = c.over_next.ensures
@@ -100,7 +100,7 @@ over_level-loop-p-init t c =
     let a = c.args in
     let e = env_of a.tables.now a.layout.now a.strings.now a.blob.now a.owners.now in
     let T = type e a.left in
-    let level = type-level e a.left c.requires.1.0 in
+    let level = type-level e a.left c.requires.left_nonzero.0 in
     (omega arith, zero-le, refl, refl, λ r h. levels.level-start T level _ h)
 
 pub over_level-descend-requires : goal.over_level-descend-requires
@@ -114,16 +114,16 @@ over_level-returns-then-have-m t c =
     let a = c.args in
     let e = env_of a.tables.now a.layout.now a.strings.now a.blob.now a.owners.now in
     let T = type e a.left in
-    let level = type-level e a.left c.requires.1.0 in
+    let level = type-level e a.left c.requires.left_nonzero.0 in
     let came = turns.came c.descend.ensures c.in-At.is in
     c.loop-p.invariant.4 _ (levels.level-short T level came.moved c.wide-m.ensures c.if-have-m.true)
 
 pub over_level-over_inner-requires : goal.over_level-over_inner-requires
 over_level-over_inner-requires t c =
     let came = turns.came c.descend.ensures c.in-At.is in
-    let ahead = turns.came-on c.descend.ensures c.in-At.is c.requires.1.1 c.loop-p.invariant.0
-    (omega (arith, c.descend.auto.frames, c.loop-p.invariant.2, c.requires.1.2)) in
-    (omega (arith, c.decreases, ahead, c.loop-p.invariant.0, c.loop-p-test.true), (c.requires.0, (c.requires.1.0, turns.halts-full came.halts)))
+    let ahead = turns.came-on c.descend.ensures c.in-At.is c.requires.left_nonzero.1 c.loop-p.invariant.0
+    (omega (arith, c.descend.auto.frames, c.loop-p.invariant.2, c.requires.left_nonzero.2)) in
+    (omega (arith, c.decreases, ahead, c.loop-p.invariant.0, c.loop-p-test.true), (c.requires.laid, (c.requires.left_nonzero.0, turns.halts-full came.halts)))
 
 pub over_level-ascend-requires : goal.over_level-ascend-requires
 over_level-ascend-requires t c =
@@ -146,7 +146,7 @@ over_level-loop-p-preserved t c =
     let a = c.args in
     let e = env_of a.tables.now a.layout.now a.strings.now a.blob.now a.owners.now in
     let T = type e a.left in
-    let level = type-level e a.left c.requires.1.0 in
+    let level = type-level e a.left c.requires.left_nonzero.0 in
     let came = turns.came c.descend.ensures c.in-At.is in
     let went = passes_over c.over_inner.ensures c.in-Over.is in
     let on = forms.over-beyond a.sig.now _ e a.left went in
@@ -168,7 +168,7 @@ over_level-returns-in-Over-ascend t c =
     let a = c.args in
     let e = env_of a.tables.now a.layout.now a.strings.now a.blob.now a.owners.now in
     let T = type e a.left in
-    let level = type-level e a.left c.requires.1.0 in
+    let level = type-level e a.left c.requires.left_nonzero.0 in
     let came = turns.came c.descend.ensures c.in-At.is in
     let went = passes_over c.over_inner.ensures c.in-Over.is in
     c.loop-p.invariant.4 _ (levels.level-over T level came.moved c.wide-m.ensures c.if-have-m.false went c.ascend.ensures c.in-Over-ascend.is)
@@ -181,7 +181,7 @@ over_level-returns-in-Broken-ascend t c =
     let a = c.args in
     let e = env_of a.tables.now a.layout.now a.strings.now a.blob.now a.owners.now in
     let T = type e a.left in
-    let level = type-level e a.left c.requires.1.0 in
+    let level = type-level e a.left c.requires.left_nonzero.0 in
     let came = turns.came c.descend.ensures c.in-At.is in
     let went = passes_over c.over_inner.ensures c.in-Over.is in
     c.loop-p.invariant.4 _ (levels.level-broken T level came.moved c.wide-m.ensures c.if-have-m.false went c.ascend.ensures c.in-Broken-ascend.is)
@@ -194,7 +194,7 @@ over_level-returns-in-Failed t c =
     let a = c.args in
     let e = env_of a.tables.now a.layout.now a.strings.now a.blob.now a.owners.now in
     let T = type e a.left in
-    let level = type-level e a.left c.requires.1.0 in
+    let level = type-level e a.left c.requires.left_nonzero.0 in
     let came = turns.came c.descend.ensures c.in-At.is in
     c.loop-p.invariant.4 _ (levels.level-failed T level came.moved c.wide-m.ensures c.if-have-m.false (passes-failed c.over_inner.ensures c.in-Failed.is))
 
@@ -206,7 +206,7 @@ over_level-returns-in-Spent t c =
     let a = c.args in
     let e = env_of a.tables.now a.layout.now a.strings.now a.blob.now a.owners.now in
     let T = type e a.left in
-    let level = type-level e a.left c.requires.1.0 in
+    let level = type-level e a.left c.requires.left_nonzero.0 in
     let came = turns.came c.descend.ensures c.in-At.is in
     c.loop-p.invariant.4 _ (levels.level-spent T level came.moved c.wide-m.ensures c.if-have-m.false (passes-spent c.over_inner.ensures c.in-Spent.is))
 
@@ -218,7 +218,7 @@ over_level-returns-then-have-m-2 t c =
     let a = c.args in
     let e = env_of a.tables.now a.layout.now a.strings.now a.blob.now a.owners.now in
     let T = type e a.left in
-    let level = type-level e a.left c.requires.1.0 in
+    let level = type-level e a.left c.requires.left_nonzero.0 in
     c.loop-p.invariant.4 _ (levels.level-torn-spent T level c.descend.ensures c.in-Broken.is c.wide-m-in-Broken.ensures c.if-have-m-2.true)
 
 pub over_level-shape_of-slots-in-Broken : goal.over_level-shape_of-slots-in-Broken
@@ -229,7 +229,7 @@ over_level-returns-in-Broken t c =
     let a = c.args in
     let e = env_of a.tables.now a.layout.now a.strings.now a.blob.now a.owners.now in
     let T = type e a.left in
-    let level = type-level e a.left c.requires.1.0 in
+    let level = type-level e a.left c.requires.left_nonzero.0 in
     c.loop-p.invariant.4 _ (levels.level-torn T level c.descend.ensures c.in-Broken.is c.wide-m-in-Broken.ensures c.if-have-m-2.false)
 
 pub over_level-shape_of-slots : goal.over_level-shape_of-slots
@@ -240,12 +240,12 @@ over_level-returns t c =
     let a = c.args in
     let e = env_of a.tables.now a.layout.now a.strings.now a.blob.now a.owners.now in
     let T = type e a.left in
-    let level = type-level e a.left c.requires.1.0 in
+    let level = type-level e a.left c.requires.left_nonzero.0 in
     let past = passes-failed (forms.type-past e a.left a.sig.now c.loop-p.p c.loop-p.have c.loop-p-test.false) refl in
     c.loop-p.invariant.4 _ (levels.level-past T level a.sig.now c.loop-p.p (stack c.loop-p.slots c.loop-p.n) past)
 
 pub over_many-over_level-requires : goal.over_many-over_level-requires
-over_many-over_level-requires t c = (omega (arith, c.decreases), (c.requires.0, (c.requires.1.0, c.requires.1.1, omega arith)))
+over_many-over_level-requires t c = (omega (arith, c.decreases), (c.requires.laid, (c.requires.left_nonzero.0, c.requires.left_nonzero.1, omega arith)))
 
 pub over_many-returns : goal.over_many-returns
 over_many-returns t c = c.over_level.ensures
