@@ -22,7 +22,7 @@ use Rattle.record.specs.Types.{type_full_name, type}
 use Rattle.record.specs.Names.{number_in, class_row, sizes_of, levels, type_in, type_name_in, type_steps_in, base_indices, base_types, base_steps}
 use Rattle.record.proofs.Read.{class-row}
 use Rattle.rows.specs.Columns as columns
-use Rattle.rows.specs.Layout.{Laid, rows_at, cell, options_in, header_in, view_in}
+use Rattle.rows.specs.Layout.{Laid, rows_at, cell, options_in, view_in}
 use Rattle.rows.proofs.Classes.{classes-are}
 use Rattle.steps.specs.Counting.{Takes, left, spent}
 use Rattle.steps.specs.declared.Steps.{Steps}
@@ -37,7 +37,6 @@ use Rattle.keys.specs.declared.Row.TheVariants.{At, NoRow}
 use Rattle.keys.proofs.Laws.{keyed-none, keyed-at-most, interfaces-count, interfaces-found, interfaces-missed, interfaces-passed}
 use Rattle.bases.specs.Candidates.{bases_among, KnowsBases, CandidateIs, index, past}
 use Rattle.bases.specs.declared.Bases.{Bases}
-use Rattle.bases.specs.declared.Candidate.{Candidate}
 use Rattle.bases.specs.declared.Candidate.TheVariants.{Index, NoCandidate}
 
 -- ---- An item of a list

@@ -1,7 +1,7 @@
 -- An input in which streams are found is the one that they make: the second half of what `Opens` says. Assumes nothing.
 use mathlib.Core.Path.{◌≡◌, refl, sym, ap, ◌∙◌}
 use mathlib.Core.List.{List, [], ◌∷◌, ◌++◌, append_assoc, append-nil}
-use Prim.Native.Nat.{ℕ, ◌+◌, ◌*◌, ◌/◌, ◌%◌, ◌≤◌, ◌<◌}
+use Prim.Native.Nat.{ℕ, ◌+◌, ◌*◌, ◌/◌, ◌%◌, ◌≤◌}
 use native.Mathlib.Omega.{arith}
 use lib.ListN.{length, drop, length-append, length-drop, take-append-drop}
 use lib.Seq.{drop-append_seam, drop-drop, take_all, length-take-le}
@@ -146,16 +146,16 @@ module _ (s : List ℕ) (start t n h : ℕ) (total : start + t + n + h ≡ lengt
       ∙ ap (λ (x : List ℕ). line_text (q "strings=") n ++ x) (line-stands (q "blob=") s _ g
       ∙ ap (λ (x : List ℕ). line_text (q "blob=") h ++ x) parts-stand)))
 
-on_line : (P : Bundle → Type 0) (l : Line) {next : ℕ → ℕ → Bundle} → P Malformed → ((n at : ℕ) → l ≡ Value n at → P (next n at)) → P (on_line l next)
+on_line-cases : (P : Bundle → Type 0) (l : Line) {next : ℕ → ℕ → Bundle} → P Malformed → ((n at : ℕ) → l ≡ Value n at → P (next n at)) → P (on_line l next)
 unfolding on_line
-on_line P NoLine p f = p
-on_line P (Value n at) p f = f n at refl
+on_line-cases P NoLine p f = p
+on_line-cases P (Value n at) p f = f n at refl
 
 pub made : (s : List ℕ) (i : Inputs) → bundle_says s (bundle_of s) ≡ value i → (s ≡ input_of i) × (length s ≤ 65536)
 unfolding bundle_of laid
 made s i =
     pick-le P (length s) 65536
-    (λ fits. on_line P _ none λ t second e. on_line P _ none λ n third f. on_line P _ none λ h start g.
+    (λ fits. on_line-cases P _ none λ t second e. on_line-cases P _ none λ n third f. on_line-cases P _ none λ h start g.
     pick-eq P (start + t + n + h) (length s) (λ total is. (made_of s start t n h total e f g ∙ ap input_of (cc), fits)) (λ _. none))
     (λ _. none)
   where

@@ -7,7 +7,6 @@ use Rattle.buffers.specs.Texts.{Text}
 use Rattle.buffers.specs.Replies.{Answer, name_reply, name_buffer}
 use Rattle.tables.specs.Extents.{Walked, walk_of}
 use Rattle.record.specs.Answers.{walk_answer, number_answer, name_answer}
-use Rattle.record.specs.Allowance.{Charged}
 use Rattle.record.proofs.Laws.{walk_is}
 use Rattle.record.proofs.Demand.{rearrangement-survives}
 use Rattle.c_replies.specs.Told.{told, ToldName, told_extent}

@@ -1,5 +1,5 @@
 -- An answer within an allowance, by what was counted and what it came to. Assumes nothing.
-use mathlib.Core.Path.{◌≡◌, refl, sym, ap, subst, ◌∙◌}
+use mathlib.Core.Path.{◌≡◌, refl, sym, ap, ◌∙◌}
 use mathlib.Core.Bool.{Bool, true, false, ◌||◌}
 use mathlib.Core.List.{List, []}
 use Prim.Native.Nat.{ℕ, ◌+◌, ◌-◌, ◌*◌, ◌/◌, ◌≤◌, ◌<◌}
@@ -17,7 +17,7 @@ use Rattle.record.specs.View.{View}
 use Rattle.record.specs.Names.{env, class_generics, base_steps}
 use Rattle.record.specs.Methods.{left_after, steps_in}
 use Rattle.record.specs.Answers.{◌⟫◌, the_class, the_method, Numbered}
-use Rattle.record.specs.Answers.{NameCall, ClassName, GenericName, BaseName, MethodName, MethodGenericName, ReturnType, ParameterType, ParameterName, ModuleName, ModuleRefName, AssemblyName, AssemblyCulture, AssemblyRefName, AssemblyRefKey, ConstantValue, Typelib}
+use Rattle.record.specs.Answers.{ClassName, GenericName, BaseName, MethodName, MethodGenericName, ReturnType, ParameterType, ParameterName, ModuleName, ModuleRefName, AssemblyName, AssemblyCulture, AssemblyRefName, AssemblyRefKey, ConstantValue, Typelib}
 use Rattle.rows.specs.Columns as columns
 use Rattle.rows.specs.Layout.{Laid, rows_at, is_marked, view_in}
 use Rattle.passing.specs.Passing.{SpecsWithin}

@@ -8,7 +8,7 @@
 --     copied-wrote, space-text, space-wrote                     a text that was written anew from a copy, and in a space of its own
 --     stands-more, stands-done, stands-then                     a text whose first bytes stand
 -- Assumes nothing.
-use Rattle.std.proofs.Common.{◌≡◌, ℕ, zero, suc, ◌+◌, ◌-◌, ◌*◌, ◌/◌, ◌%◌, ◌<◌, ◌≤◌, min, Bool, true, false, eqb, ltb, List, [], ◌∷◌, ◌++◌, length, get_or, take, drop, set, sym, refl, ap, ◌∙◌, subst, ap₂, append_assoc, append-nil, add-zero, arith, length-append, length-drop, length-set, length-take-le, get_or-drop, drop-cons, get_or-set_other, get_or-take, get_or-set_same, drop-drop, get_or-append-add, ext_get_or, take-add, le-ltb, lt-ltb, ne_eqb}
+use Rattle.std.proofs.Common.{◌≡◌, ℕ, zero, suc, ◌+◌, ◌-◌, ◌*◌, ◌/◌, ◌%◌, ◌<◌, ◌≤◌, Bool, true, false, eqb, List, [], ◌∷◌, ◌++◌, length, get_or, take, drop, set, sym, refl, ap, ◌∙◌, subst, ap₂, append_assoc, append-nil, add-zero, arith, length-append, length-drop, length-set, length-take-le, get_or-drop, drop-cons, get_or-set_other, get_or-take, get_or-set_same, drop-drop, get_or-append-add, ext_get_or, take-add, le-ltb, lt-ltb, ne_eqb}
 use native.Mathlib.Numerals.{unary_clauses}
 use native.Mathlib.Decide.{dec_lt}
 use lib.Bits.{bit_and, and_block, and_mask, and_zero_r}

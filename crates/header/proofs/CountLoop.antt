@@ -8,7 +8,7 @@ use native.Mathlib.Numerals.{add-one}
 use native.Mathlib.Omega.{arith}
 use native.Mathlib.Decide.{dec_lt}
 use borrow.Author.Count.{below_more}
-use borrow.Author.Tests.{lt-ltb, le-ltb, eq-eqb, ne_eqb}
+use borrow.Author.Tests.{lt-ltb, le-ltb, eq-eqb}
 use lib.Dec.{ltb}
 use lib.ListN.{length, get_or, set, length-set, replicate, get_or-replicate}
 use lib.Seq.{get_or-set_same, get_or-set_other}
@@ -16,7 +16,7 @@ use Rattle.numbers.specs.Bits.{bit_at, ones_below}
 use Rattle.numbers.specs.Fixed.{le_at}
 use Rattle.numbers.proofs.Bits.{halved-start, halved, low_bit, bit-clear, ones-set, ones-clear, ones-rise}
 use Rattle.numbers.proofs.Lists.{table_is}
-use Rattle.header.specs.Stream.{valid, row_count, row_counts, counts_end, over_limit, CountsRead}
+use Rattle.header.specs.Stream.{valid, row_count, counts_end, over_limit, CountsRead}
 
 pub record Counting (limit : ℕ) (s counts : List ℕ) (m at kind : ℕ) : Type 0 where
   pub low : kind ≤ 64

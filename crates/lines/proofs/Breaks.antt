@@ -1,17 +1,16 @@
 -- The byte 0x0A stands at a line's end alone. Assumes nothing.
 use mathlib.Core.Path.{◌≡◌, refl, sym, ap, ◌∙◌}
 use mathlib.Core.List.{[], ◌∷◌, ◌++◌, append_assoc}
-use Prim.Native.Nat.{ℕ, suc, ◌+◌, ◌<◌}
+use Prim.Native.Nat.{suc, ◌+◌}
 use native.Mathlib.Omega.{arith}
 use borrow.Author.Tests.{ne_eqb}
-use lib.Dec.{eqb}
 use lib.ListN.{length, length-append}
 use Rattle.buffers.specs.Texts.{Text, decimal}
 use Rattle.escapes.specs.Escapes.{escaped, shown}
 use Rattle.escapes.specs.Claims.{Visible}
 use Rattle.escapes.proofs.Apart.{visible, visible-then, no-break, numbers-stand}
 use Rattle.heaps.specs.Lookups.{before}
-use Rattle.lines.specs.Lines.{line, number_line}
+use Rattle.lines.specs.Lines.{line}
 use Rattle.lines.specs.Breaks.{OneLine}
 
 first-break : (u : Text) → Visible u → before 0x0A (u ++ (0x0A ∷ [])) ≡ length u

@@ -1,5 +1,5 @@
 -- What a line counts, by its place, and the step where that is beyond the ceiling. Assumes nothing.
-use mathlib.Core.Path.{◌≡◌, refl, sym, ap, ◌∙◌, subst}
+use mathlib.Core.Path.{◌≡◌, refl, sym, ◌∙◌, subst}
 use mathlib.Core.Bool.{Bool, true, false, cond}
 use mathlib.Core.List.{List, [], ◌∷◌}
 use Prim.Native.Nat.{ℕ}
@@ -14,8 +14,8 @@ use Rattle.record.specs.View.{View}
 use Rattle.record.specs.Answers.{NameCall, BaseName, ReturnType, ParameterType, ParameterName}
 use Rattle.record.specs.Allowance.{name_work, is_over}
 use Rattle.lines.specs.Lines.{spent_line, missing_line, name_line, goes_on}
-use Rattle.lines.specs.Ceiling.{comes_first, beyond, listed}
-use Rattle.lines.specs.Cursors.{cursor, next_number, line_at, next_at, place_work, is_over_at, counts_anew, ShowsName, Stepped}
+use Rattle.lines.specs.Ceiling.{comes_first, listed}
+use Rattle.lines.specs.Cursors.{cursor, next_number, place_work, is_over_at, counts_anew, ShowsName, Stepped}
 use Rattle.lines.specs.declared.Place.{Place}
 use Rattle.lines.specs.declared.Place.TheVariants.{Stop, Classes, Class, Flags, Generic, Base, Method, MethodFlags, MethodGeneric, Returns, ParamType, ParamName, Done, Packing, Size}
 use Rattle.lines.specs.declared.Cursor.{Cursor}

@@ -1,12 +1,12 @@
 -- Nothing that the record of a stream counts has many items: tables have at most 15,000 rows, and methods at most 2,000 parameters. Assumes
 -- nothing.
 use mathlib.Core.Path.{◌≡◌, refl, sym, ◌∙◌, ap, subst}
-use mathlib.Core.Bool.{Bool, true, false, cond, ◌&&◌}
+use mathlib.Core.Bool.{Bool, true, false, cond}
 use mathlib.Core.List.{List, [], ◌∷◌, map}
 use mathlib.Core.Option.{Option, none, some}
 use Prim.Native.Nat.{ℕ, zero, suc, ◌+◌, ◌*◌, ◌-◌, ◌/◌, ◌%◌, ◌<◌, ◌≤◌}
 use native.Mathlib.Omega.{arith}
-use lib.Dec.{eqb, ltb, leb}
+use lib.Dec.{eqb, ltb}
 use lib.ListN.{length, get_elem?, length-append}
 use Rattle.numbers.specs.Lists.{tabulate}
 use Rattle.numbers.specs.Reading.{Reader, Res, chain, give, byte, ◌>>=◌}
@@ -14,7 +14,7 @@ use Rattle.numbers.specs.Compressed.{uint}
 use Rattle.numbers.proofs.Lists.{tabulate-length, tabulate-item}
 use Rattle.numbers.proofs.Pick.{pick, pick-lt}
 use Rattle.buffers.specs.Texts.{Text}
-use Rattle.heaps.specs.Lookups.{blob, name}
+use Rattle.heaps.specs.Lookups.{name}
 use Rattle.header.specs.Stream.{base, opened}
 use Rattle.header.proofs.Cases.{few-counted}
 use Rattle.layouts.specs.Kinds.{type_def, method_def, interface_impl, generic_param}
@@ -25,8 +25,8 @@ use Rattle.record.specs.Readings.{in_blob}
 use Rattle.record.specs.Rows.{of_key}
 use Rattle.record.specs.Types.{Env, unless, counted, method_start, type}
 use Rattle.record.specs.View.{View, view_of, view, side_row}
-use Rattle.record.specs.Columns.{owner, generic_name, impl_class, impl_interface, extends, method_signature}
-use Rattle.record.specs.Names.{rows_in, sizes_of, classes, class_row, method_row, class_index, number_in, type_name_in, base_indices, base_types, levels}
+use Rattle.record.specs.Columns.{owner, generic_name, impl_class, impl_interface}
+use Rattle.record.specs.Names.{rows_in, classes, class_index, type_name_in, base_indices, base_types, levels}
 use Rattle.record.specs.Methods.{Signature, tries, signature, signature_blob, reading, read_by, readers, signature_of, signature_in, left_after, method_lists}
 use Rattle.record.specs.Record.{parameters_from, method, class, class_record}
 use Rattle.record.proofs.Extents.{kept-le}

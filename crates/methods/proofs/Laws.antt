@@ -9,12 +9,12 @@ use borrow.Author.Tests.{eq-eqb, ne_eqb, le-leb, lt-leb}
 use Rattle.numbers.specs.Lists.{tabulate}
 use Rattle.layouts.specs.Kinds.{method_def}
 use Rattle.record.specs.Columns.{method_list}
-use Rattle.record.specs.View.{View, view_of}
+use Rattle.record.specs.View.{View}
 use Rattle.record.specs.Names.{rows_in, number_in, classes, class_row}
 use Rattle.record.specs.Methods.{method_lists, takes, left_over, left_after}
 use Rattle.record.proofs.Read.{left_le}
 use Rattle.rows.specs.Columns as columns
-use Rattle.rows.specs.Layout.{Laid, Ascends, rows_at, cell, options_in, view_in}
+use Rattle.rows.specs.Layout.{Laid, Ascends, rows_at, cell, view_in}
 use Rattle.rows.proofs.Laws.{le-or-lt}
 use Rattle.rows.proofs.Classes.{classes-are, methods-are, list_at}
 use Rattle.methods.specs.Ranges.{RangeOf}

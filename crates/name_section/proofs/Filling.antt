@@ -13,7 +13,7 @@ use Rattle.numbers.proofs.Pick.{by-lt}
 use Rattle.numbers.specs.Lists.{tabulate}
 use Rattle.buffers.specs.Texts.{Text}
 use Rattle.buffers.specs.Writes.{Wrote, Said}
-use Rattle.buffers.specs.Replies.{Answer, refused, refused_by, value, cleared}
+use Rattle.buffers.specs.Replies.{Answer, refused_by, value, cleared}
 use Rattle.buffers.specs.declared.Refusal.{Refusal}
 use Rattle.buffers.specs.declared.Refusal.TheVariants.{BufferTooSmall}
 use Rattle.buffers.specs.declared.Reason.{Reason}

@@ -21,7 +21,7 @@ use Rattle.record.specs.View.{view}
 use Rattle.record.specs.Names.{classes, class_full_name, named, class_named}
 use Rattle.record.specs.Record.{Class, class, class_record}
 use Rattle.record.specs.Answers.{◌⟫◌, ready}
-use Rattle.name_section.specs.Section.{slot, section, offsets_from, names_of, names, fits, Used, section_reply, section_buffer, offset_buffer}
+use Rattle.name_section.specs.Section.{slot, section, offsets_from, names_of, fits, Used, section_reply, section_buffer, offset_buffer}
 use Rattle.name_section.specs.Claims.{ReadsName}
 use Rattle.name_section.proofs.Slots.{offset_at, offsets-length}
 use Rattle.name_section.proofs.Zeroless.{Nonzero, Clean, names-clean}

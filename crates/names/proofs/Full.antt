@@ -11,7 +11,7 @@ use lib.ListN.{length, length-append}
 use Rattle.numbers.specs.Parts.{part, CutOf}
 use Rattle.numbers.proofs.Parts.{cut-is}
 use Rattle.buffers.specs.Texts.{Text}
-use Rattle.buffers.specs.Writes.{Kept, Wrote, Said, missing, written}
+use Rattle.buffers.specs.Writes.{Kept, Wrote, Said, written}
 use Rattle.buffers.proofs.Writing.{wrote_then}
 use Rattle.backwards.proofs.Laws.{wrote-over-kept}
 use Rattle.heaps.specs.Lookups.{before, string_at, string, is_there}

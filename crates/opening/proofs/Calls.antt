@@ -12,7 +12,7 @@ use Rattle.header.specs.declared.Opened.{Opened}
 use Rattle.header.specs.declared.Opened.TheVariants.{Refused, Ready}
 use Rattle.record.specs.View.{View, view, view_of}
 use Rattle.record.specs.Answers.{NumberCall, NameCall}
-use Rattle.record.specs.Allowance.{Charged, number_charged, name_charged, NumberedCharged, NamedCharged}
+use Rattle.record.specs.Allowance.{number_charged, name_charged, NumberedCharged, NamedCharged}
 use Rattle.record.proofs.Allowance.{number-unopened, name-unopened}
 use Rattle.rows.specs.Layout.{view_in}
 use Rattle.opening.specs.Opening.{OpenedAs}

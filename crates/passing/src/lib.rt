@@ -272,7 +272,7 @@ fn over_shape(sig: &[u8], pos: usize, steps: u64) -> Passed
 
 // The type at a position, by the owners' numbers. Pointers, references, vectors and modifiers are passed by a loop: without a text they
 // come to what the type behind them comes to.
-#[cycle(over_array_over_class_over_few_over_inner_over_level_over_many_over_method_over_name_over_next_over_parameters_over_type)]
+#[cycle(over)]
 fn over_type(
     tables: &[u8],
     strings: &[u8],
@@ -377,7 +377,7 @@ fn over_type(
 }
 
 // The same, where most types are their tag alone.
-#[cycle(over_array_over_class_over_few_over_inner_over_level_over_many_over_method_over_name_over_next_over_parameters_over_type)]
+#[cycle(over)]
 fn over_next(
     tables: &[u8],
     strings: &[u8],
@@ -400,7 +400,7 @@ fn over_next(
 }
 
 // A type inside of a generic type, with other frames where none is free for it.
-#[cycle(over_array_over_class_over_few_over_inner_over_level_over_many_over_method_over_name_over_next_over_parameters_over_type)]
+#[cycle(over)]
 fn over_inner(
     tables: &[u8],
     strings: &[u8],
@@ -425,7 +425,7 @@ fn over_inner(
 }
 
 // A type that begins with a tag that keeps the level, with few frames.
-#[cycle(over_array_over_class_over_few_over_inner_over_level_over_many_over_method_over_name_over_next_over_parameters_over_type)]
+#[cycle(over)]
 fn over_few(
     tables: &[u8],
     strings: &[u8],
@@ -449,7 +449,7 @@ fn over_few(
 }
 
 // The same with many.
-#[cycle(over_array_over_class_over_few_over_inner_over_level_over_many_over_method_over_name_over_next_over_parameters_over_type)]
+#[cycle(over)]
 fn over_many(
     tables: &[u8],
     strings: &[u8],
@@ -473,7 +473,7 @@ fn over_many(
 }
 
 // All types of one level that are inside of one another: a loop over frames.
-#[cycle(over_array_over_class_over_few_over_inner_over_level_over_many_over_method_over_name_over_next_over_parameters_over_type)]
+#[cycle(over)]
 fn over_level(
     tables: &[u8],
     strings: &[u8],
@@ -550,7 +550,7 @@ fn over_level(
 }
 
 // 0x11, 0x12: the name behind an index.
-#[cycle(over_array_over_class_over_few_over_inner_over_level_over_many_over_method_over_name_over_next_over_parameters_over_type)]
+#[cycle(over)]
 fn over_class(
     tables: &[u8],
     strings: &[u8],
@@ -579,7 +579,7 @@ fn over_class(
 }
 
 // The name behind an index, by the owners' numbers. Its two low bits say which table.
-#[cycle(over_array_over_class_over_few_over_inner_over_level_over_many_over_method_over_name_over_next_over_parameters_over_type)]
+#[cycle(over)]
 fn over_name(
     tables: &[u8],
     strings: &[u8],
@@ -614,7 +614,7 @@ fn over_name(
 }
 
 // 0x14: a type and the shape of an array of it.
-#[cycle(over_array_over_class_over_few_over_inner_over_level_over_many_over_method_over_name_over_next_over_parameters_over_type)]
+#[cycle(over)]
 fn over_array(
     tables: &[u8],
     strings: &[u8],
@@ -638,7 +638,7 @@ fn over_array(
 }
 
 // 0x1B: a function pointer, whose signature is a method's (`parse_method_def_signature`).
-#[cycle(over_array_over_class_over_few_over_inner_over_level_over_many_over_method_over_name_over_next_over_parameters_over_type)]
+#[cycle(over)]
 fn over_method(
     tables: &[u8],
     strings: &[u8],
@@ -673,7 +673,7 @@ fn over_method(
 }
 
 // So many parameters. One that fails does not end the reading, which goes on after the bytes it took.
-#[cycle(over_array_over_class_over_few_over_inner_over_level_over_many_over_method_over_name_over_next_over_parameters_over_type)]
+#[cycle(over)]
 fn over_parameters(
     tables: &[u8],
     strings: &[u8],

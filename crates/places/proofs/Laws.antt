@@ -15,7 +15,7 @@ use Rattle.classes.specs.declared.ClassNumber.{ClassNumber}
 use Rattle.classes.specs.declared.TypeDefRow.{TypeDefRow}
 use Rattle.record.specs.View.{View, view_of}
 use Rattle.layouts.specs.Kinds.{method_def}
-use Rattle.record.specs.Names.{classes, rows_in}
+use Rattle.record.specs.Names.{rows_in}
 use Rattle.record.specs.Methods.{left_after}
 use Rattle.record.specs.Record.{method, class}
 use Rattle.record.specs.Answers.{◌⟫◌, or_no_row, item, the_class, the_method, method_count}

@@ -6,7 +6,6 @@ use mathlib.Core.Option.{Option, none, some}
 use Prim.Native.Nat.{ℕ, ◌+◌, ◌-◌, ◌*◌, ◌≤◌, ◌<◌}
 use native.Mathlib.Omega.{arith}
 use lib.ListN.{length, get_elem?}
-use Rattle.buffers.specs.Texts.{Text}
 use Rattle.buffers.specs.Writes.{Said}
 use Rattle.buffers.specs.declared.Reason.{Reason}
 use Rattle.buffers.specs.Replies.{Refused, Answer, refused, refused_by, value, name_or_5}

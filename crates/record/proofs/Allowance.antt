@@ -22,7 +22,7 @@ use Rattle.record.specs.Answers.{◌⟫◌, item, the_class, the_method, Numbere
 use Rattle.record.specs.Answers.{NumberCall, ClassCount, ClassFlags, ClassPacking, ClassSize, GenericCount, BaseCount, MethodCount, MethodFlags, MethodGenericCount, ParameterCount, ModuleRefCount, AssemblyVersion, AssemblyRefCount, AssemblyRefVersion, ConstantCount, number_answer}
 use Rattle.record.specs.Answers.{NameCall, ClassName, GenericName, BaseName, MethodName, MethodGenericName, ReturnType, ParameterType, ParameterName, ModuleName, ModuleRefName, AssemblyName, AssemblyCulture, AssemblyRefName, AssemblyRefKey, ConstantValue, Typelib, name_answer}
 use Rattle.record.specs.Allowance.{base_work, method_work, number_work, name_work, count_of, is_paid, cost, charge, Exactly, SpentExactly, RaisingKeeps}
-use Rattle.record.specs.Allowance.{Charged, number_charged, name_charged, NumberedCharged, NamedCharged}
+use Rattle.record.specs.Allowance.{number_charged, name_charged, NumberedCharged, NamedCharged}
 use Rattle.record.proofs.Laws.{opening-first}
 
 cost-least : {A : Type 0} (steps : ℕ) (a : Answer A) → cost steps a ≤ steps

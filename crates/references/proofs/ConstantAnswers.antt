@@ -4,14 +4,14 @@ use mathlib.Core.Logic.{◌≢◌}
 use mathlib.Core.Bool.{Bool, true, false, cond}
 use mathlib.Core.List.{List, [], ◌∷◌, ◌++◌, map, append-nil, map-append}
 use mathlib.Core.Option.{Option, none, some}
-use Prim.Native.Nat.{ℕ, zero, suc, ◌+◌, ◌≤◌, ◌<◌}
+use Prim.Native.Nat.{ℕ, zero, suc, ◌+◌, ◌<◌}
 use native.Mathlib.Omega.{arith}
 use borrow.Author.Tests.{eq-eqb, ne_eqb}
 use lib.Dec.{eqb}
 use lib.ListN.{length, get_or}
 use Rattle.numbers.specs.Lists.{tabulate}
 use Rattle.buffers.specs.Texts.{Text}
-use Rattle.buffers.specs.Replies.{Answer, refused_by, value, name_or_5}
+use Rattle.buffers.specs.Replies.{refused_by, value, name_or_5}
 use Rattle.buffers.specs.declared.Refusal.TheVariants.{NoSuchRow}
 use Rattle.heaps.specs.Lookups.{blob as blob_at_index}
 use Rattle.keys.specs.Keyed.{FoundIs}

@@ -14,7 +14,7 @@ use Rattle.header.specs.declared.Opened.TheVariants.{Refused, Ready}
 use Rattle.record.specs.View.{view}
 use Rattle.opening.proofs.Laws.{flag_is}
 use Rattle.references.specs.Columns as columns
-use Rattle.references.specs.Layout.{layout_of, options_in, Laid, view_in, OpenedAs}
+use Rattle.references.specs.Layout.{layout_of, options_in, view_in, OpenedAs}
 use Rattle.references.proofs.Laying.{layout-size}
 
 said : (o : Options) (h : Header) (n : ℕ) → options_in (layout_of o h n) ≡ o

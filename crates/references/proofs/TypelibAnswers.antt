@@ -1,10 +1,10 @@
 -- What the answer for the typelib is, by the layout: the rows behind coded indices, and the first row that qualifies. Assumes nothing.
 use mathlib.Core.Path.{◌≡◌, refl, sym, ap, subst, ◌∙◌}
 use mathlib.Core.Logic.{◌≢◌}
-use mathlib.Core.Bool.{Bool, true, false, cond, ◌&&◌}
-use mathlib.Core.List.{List, [], ◌∷◌, map}
+use mathlib.Core.Bool.{Bool, true, false, cond}
+use mathlib.Core.List.{List, []}
 use mathlib.Core.Option.{Option, none, some}
-use Prim.Native.Nat.{ℕ, zero, suc, ◌+◌, ◌-◌, ◌/◌, ◌%◌, ◌≤◌, ◌<◌}
+use Prim.Native.Nat.{ℕ, zero, suc, ◌+◌, ◌-◌, ◌/◌, ◌%◌, ◌<◌}
 use native.Mathlib.Omega.{arith}
 use borrow.Author.Tests.{eq-eqb, ne_eqb, ltb-true}
 use denote.Ref.{Bor}
@@ -13,8 +13,8 @@ use lib.ListN.{length, get_or}
 use Rattle.numbers.specs.Lists.{tabulate}
 use Rattle.numbers.specs.Parts.{CutOf}
 use Rattle.numbers.proofs.Parts.{cut-is}
-use Rattle.buffers.specs.Texts.{Text, q, same}
-use Rattle.buffers.specs.Replies.{Answer, refused_by, value, name_or_5}
+use Rattle.buffers.specs.Texts.{q, same}
+use Rattle.buffers.specs.Replies.{refused_by, name_or_5}
 use Rattle.buffers.specs.declared.Refusal.TheVariants.{NoSuchRow, NoName}
 use Rattle.buffers.specs.declared.Reason.{Reason}
 use Rattle.buffers.specs.declared.Reason.TheVariants.{Untold}

@@ -135,7 +135,7 @@ fn push_sep(buf: &mut [u8], at: usize, i: usize, text: &[u8]) -> usize
 }
 
 // The type at a position, by the owners' numbers. Tags that keep the level and add no text before the type are passed by a loop.
-#[cycle(parse_method_def_signature_sig_around_sig_array_sig_class_sig_few_sig_form_sig_inner_sig_level_sig_many_sig_parameters_sig_plain_sig_type_type_name)]
+#[cycle(sig)]
 fn sig_type(
     buf: &mut [u8],
     at: usize,
@@ -175,7 +175,7 @@ fn sig_type(
 }
 
 // The type behind such a run. 0x15 keeps the level too.
-#[cycle(parse_method_def_signature_sig_around_sig_array_sig_class_sig_few_sig_form_sig_inner_sig_level_sig_many_sig_parameters_sig_plain_sig_type_type_name)]
+#[cycle(sig)]
 fn sig_plain(
     buf: &mut [u8],
     at: usize,
@@ -207,7 +207,7 @@ fn sig_plain(
 }
 
 // A type inside of a generic type, with other frames where none is free for it.
-#[cycle(parse_method_def_signature_sig_around_sig_array_sig_class_sig_few_sig_form_sig_inner_sig_level_sig_many_sig_parameters_sig_plain_sig_type_type_name)]
+#[cycle(sig)]
 fn sig_inner(
     buf: &mut [u8],
     at: usize,
@@ -237,7 +237,7 @@ fn sig_inner(
 }
 
 // A type that begins with a tag that keeps the level, with few frames.
-#[cycle(parse_method_def_signature_sig_around_sig_array_sig_class_sig_few_sig_form_sig_inner_sig_level_sig_many_sig_parameters_sig_plain_sig_type_type_name)]
+#[cycle(sig)]
 fn sig_few(
     buf: &mut [u8],
     at: usize,
@@ -262,7 +262,7 @@ fn sig_few(
 }
 
 // The same with many.
-#[cycle(parse_method_def_signature_sig_around_sig_array_sig_class_sig_few_sig_form_sig_inner_sig_level_sig_many_sig_parameters_sig_plain_sig_type_type_name)]
+#[cycle(sig)]
 fn sig_many(
     buf: &mut [u8],
     at: usize,
@@ -287,7 +287,7 @@ fn sig_many(
 }
 
 // All types of one level that are inside of one another, by a loop over frames. A failure anywhere in it ends the whole.
-#[cycle(parse_method_def_signature_sig_around_sig_array_sig_class_sig_few_sig_form_sig_inner_sig_level_sig_many_sig_parameters_sig_plain_sig_type_type_name)]
+#[cycle(sig)]
 fn sig_level(
     buf: &mut [u8],
     at: usize,
@@ -344,7 +344,7 @@ fn sig_level(
 }
 
 // Any other type, by its tag (II.23.1.16).
-#[cycle(parse_method_def_signature_sig_around_sig_array_sig_class_sig_few_sig_form_sig_inner_sig_level_sig_many_sig_parameters_sig_plain_sig_type_type_name)]
+#[cycle(sig)]
 fn sig_form(
     buf: &mut [u8],
     at: usize,
@@ -454,7 +454,7 @@ fn push_behind(buf: &mut [u8], at: usize, tag: u8) -> usize
 }
 
 // 0x0F, 0x10: a type between two texts.
-#[cycle(parse_method_def_signature_sig_around_sig_array_sig_class_sig_few_sig_form_sig_inner_sig_level_sig_many_sig_parameters_sig_plain_sig_type_type_name)]
+#[cycle(sig)]
 fn sig_around(
     buf: &mut [u8],
     at: usize,
@@ -482,7 +482,7 @@ fn sig_around(
 }
 
 // 0x11, 0x12: the name behind an index.
-#[cycle(parse_method_def_signature_sig_around_sig_array_sig_class_sig_few_sig_form_sig_inner_sig_level_sig_many_sig_parameters_sig_plain_sig_type_type_name)]
+#[cycle(sig)]
 fn sig_class(
     buf: &mut [u8],
     at: usize,
@@ -511,7 +511,7 @@ fn sig_class(
 }
 
 // The name behind an index, by the owners' numbers. Its two low bits say which table.
-#[cycle(parse_method_def_signature_sig_around_sig_array_sig_class_sig_few_sig_form_sig_inner_sig_level_sig_many_sig_parameters_sig_plain_sig_type_type_name)]
+#[cycle(sig)]
 fn type_name(
     buf: &mut [u8],
     at: usize,
@@ -548,7 +548,7 @@ fn type_name(
 }
 
 // 0x14: a type and the shape of an array of it.
-#[cycle(parse_method_def_signature_sig_around_sig_array_sig_class_sig_few_sig_form_sig_inner_sig_level_sig_many_sig_parameters_sig_plain_sig_type_type_name)]
+#[cycle(sig)]
 fn sig_array(
     buf: &mut [u8],
     at: usize,
@@ -574,7 +574,7 @@ fn sig_array(
 }
 
 // 0x1B: a function pointer, whose signature is a method's (`parse_method_def_signature`).
-#[cycle(parse_method_def_signature_sig_around_sig_array_sig_class_sig_few_sig_form_sig_inner_sig_level_sig_many_sig_parameters_sig_plain_sig_type_type_name)]
+#[cycle(sig)]
 fn parse_method_def_signature(
     buf: &mut [u8],
     at: usize,
@@ -617,7 +617,7 @@ fn parse_method_def_signature(
 }
 
 // So many parameters. One that fails is taken back with its separator, and the reading goes on after the bytes it took.
-#[cycle(parse_method_def_signature_sig_around_sig_array_sig_class_sig_few_sig_form_sig_inner_sig_level_sig_many_sig_parameters_sig_plain_sig_type_type_name)]
+#[cycle(sig)]
 fn sig_parameters(
     buf: &mut [u8],
     at: usize,

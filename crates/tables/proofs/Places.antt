@@ -1,5 +1,5 @@
 -- Where tables lie: the laws behind `TablesApart`. Assumes nothing.
-use mathlib.Core.Path.{◌≡◌, refl, sym, ap, ◌∙◌, subst}
+use mathlib.Core.Path.{◌≡◌, refl, sym, subst}
 use mathlib.Core.Bool.{Bool, true, false, cond}
 use mathlib.Core.List.{List}
 use Prim.Native.Nat.{ℕ, zero, suc, ◌+◌, ◌-◌, ◌*◌, ◌/◌, ◌≤◌, ◌<◌, min, zero-le}
@@ -10,17 +10,17 @@ use lib.Dec.{leb}
 use lib.ListN.{length, get_or, replicate, length-replicate, get_or-replicate, get_or-eq_default}
 use Rattle.numbers.specs.Lists.{tabulate}
 use Rattle.numbers.proofs.Lists.{table_at, tabulate-length}
-use Rattle.header.specs.Stream.{opened, counts_end}
+use Rattle.header.specs.Stream.{opened}
 use Rattle.header.specs.declared.Options.{Options}
 use Rattle.header.specs.declared.Header.{Header}
 use Rattle.header.specs.declared.Opened.{Opened}
 use Rattle.header.specs.declared.Opened.TheVariants.{Refused, Ready}
-use Rattle.header.proofs.Cases.{first-within, ready-first}
+use Rattle.header.proofs.Cases.{ready-first}
 use Rattle.layouts.specs.Columns.{width_in, row_size}
 use Rattle.layouts.specs.declared.IndexSizes.{IndexSizes}
 use Rattle.layouts.proofs.Facts.{size-pos}
 use Rattle.tables.specs.Extents.{start_of, is_table, stop_kind, whole_rows, if_reached, walked, row_size_in, counted, sizes_in, answered, walk_by, Extent, extent_by, extent}
-use Rattle.tables.specs.Apart.{Inside, table_of, TablesApart}
+use Rattle.tables.specs.Apart.{Inside, TablesApart}
 
 zeros : (k : ℕ) → get_or (replicate {A = ℕ} 64 0) k 0 ≡ 0
 zeros k = go (dec_lt k 64)

@@ -1,4 +1,3 @@
-
 use Rattle.answers.proofs.answer_name.Goals as goal
 
 pub tell_name-answered-requires : goal.tell_name-answered-requires

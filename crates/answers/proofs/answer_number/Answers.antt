@@ -1,4 +1,3 @@
-
 use Rattle.answers.proofs.answer_number.Goals as goal
 
 pub reply_number-counted-requires : goal.reply_number-counted-requires

@@ -1,4 +1,3 @@
-
 use Rattle.answers.proofs.nothing_known.Goals as goal
 
 pub returns : goal.returns

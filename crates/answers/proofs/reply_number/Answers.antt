@@ -17,15 +17,18 @@ pub returns-in-MethodCount : goal.returns-in-MethodCount
 returns-in-MethodCount c = (rw c.in-MethodCount.is (c.count_methods_of-reply.ensures _ _), c.requires.knows)
 
 pub returns-in-MethodFlags : goal.returns-in-MethodFlags
-returns-in-MethodFlags c = let place = c.place_method-placed.ensures c.args.strings.now c.args.blob.now c.requires.knows.own in
+returns-in-MethodFlags c =
+    let place = c.place_method-placed.ensures c.args.strings.now c.args.blob.now c.requires.knows.own in
     (rw c.in-MethodFlags.is (c.method_flags_of-reply.ensures _ _ _ _ place.0), c.with_own.ensures _ _ c.requires.knows place.1)
 
 pub returns-in-MethodGenericCount : goal.returns-in-MethodGenericCount
-returns-in-MethodGenericCount c = let place = c.place_method-placed-in-MethodGenericCount.ensures c.args.strings.now c.args.blob.now c.requires.knows.own in
+returns-in-MethodGenericCount c =
+    let place = c.place_method-placed-in-MethodGenericCount.ensures c.args.strings.now c.args.blob.now c.requires.knows.own in
     (rw c.in-MethodGenericCount.is (c.count_method_generics_of-reply.ensures _ _ _ _ place.0), c.with_own-in-MethodGenericCount.ensures _ _ c.requires.knows place.1)
 
 pub returns-in-ParamCount : goal.returns-in-ParamCount
-returns-in-ParamCount c = let place = c.place_method-placed-in-ParamCount.ensures c.args.strings.now c.args.blob.now c.requires.knows.own in
+returns-in-ParamCount c =
+    let place = c.place_method-placed-in-ParamCount.ensures c.args.strings.now c.args.blob.now c.requires.knows.own in
     (rw c.in-ParamCount.is (c.count_params_of-reply.ensures _ place.0), c.with_own-in-ParamCount.ensures _ _ c.requires.knows place.1)
 
 pub returns-in-ClassPacking : goal.returns-in-ClassPacking

@@ -1,4 +1,3 @@
-
 use Rattle.answers.proofs.with_bases.Goals as goal
 
 pub returns : goal.returns

@@ -1,4 +1,3 @@
-
 use Rattle.answers.proofs.with_own.Goals as goal
 
 pub returns : goal.returns

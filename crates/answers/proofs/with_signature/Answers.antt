@@ -1,4 +1,3 @@
-
 use Rattle.answers.proofs.with_signature.Goals as goal
 
 pub returns : goal.returns

@@ -1,7 +1,6 @@
-use Prim.Native.Nat.{◌+◌, ◌-◌, ◌≤◌}
+use Prim.Native.Nat.{◌-◌}
 use native.Mathlib.Omega.{arith}
-use lib.ListN.{length, get_or}
-use Rattle.backwards.proofs.Filling.{Filling, fill_start, move-turn, fill-moved}
+use Rattle.backwards.proofs.Filling.{fill_start, move-turn, fill-moved}
 use borrow.Author.Rules.{rules}
 use Rattle.backwards.proofs.move_down.Goals as goal
 

@@ -1,7 +1,6 @@
 use Prim.Native.Nat.{◌+◌, ◌-◌, ◌≤◌}
-use native.Mathlib.Omega.{arith}
 use lib.ListN.{length, get_or}
-use Rattle.backwards.proofs.Filling.{Filling, fill_start, move-turn, fill-moved}
+use Rattle.backwards.proofs.Filling.{Filling}
 use Rattle.backwards.proofs.move_down.Given as goal
 
 abbrev pub invariant-loop-j : goal.invariant-loop-j

@@ -1,8 +1,7 @@
 use mathlib.Core.Path.{refl}
-use Prim.Native.Nat.{◌-◌, ◌≤◌}
+use Prim.Native.Nat.{◌-◌}
 use native.Mathlib.Omega.{arith}
-use lib.ListN.{length, get_or}
-use Rattle.backwards.proofs.Filling.{Filling, fill_start, fill-turn, fill-behind}
+use Rattle.backwards.proofs.Filling.{fill_start, fill-turn, fill-behind}
 use borrow.Author.Rules.{rules}
 use Rattle.backwards.proofs.put_before.Goals as goal
 

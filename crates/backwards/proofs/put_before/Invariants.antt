@@ -1,8 +1,6 @@
-use mathlib.Core.Path.{refl}
 use Prim.Native.Nat.{◌-◌, ◌≤◌}
-use native.Mathlib.Omega.{arith}
 use lib.ListN.{length, get_or}
-use Rattle.backwards.proofs.Filling.{Filling, fill_start, fill-turn, fill-behind}
+use Rattle.backwards.proofs.Filling.{Filling}
 use Rattle.backwards.proofs.put_before.Given as goal
 
 abbrev pub invariant-loop-i : goal.invariant-loop-i

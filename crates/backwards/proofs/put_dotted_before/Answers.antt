@@ -11,10 +11,11 @@ pub put_before-requires : goal.put_before-requires
 put_before-requires c = (omega arith, simp length-set (omega arith))
 
 pub shape_of-buf : goal.shape_of-buf
-shape_of-buf c = simp length-set at c.put_before.auto.0
+shape_of-buf c = simp length-set at c.put_before.auto.buf
 
 pub returns : goal.returns
-returns c = let called = c.put_before in
+returns c =
+    let called = c.put_before in
     let s = c.args in
     let dot = behind-byte s.buf.now s.floor s.end 46 (omega arith) (omega arith) in
     placed-then dot _ _ called.result called.ensures

@@ -1,9 +1,5 @@
 use Prim.Native.Nat.{◌+◌, ◌-◌}
-use native.Mathlib.Omega.{arith}
-use Rattle.rows.specs.Columns as columns
-use Rattle.rows.proofs.Laws.{rows-narrow}
-use Rattle.bases.specs.Candidates.{CandidateIs}
-use Rattle.bases.proofs.Laws.{Passing, pass-start, pass-more, pass_spent, pass-past, pass_all, candidates-most}
+use Rattle.bases.proofs.Laws.{Passing}
 use Rattle.bases.proofs.pass_bases.Given as goal
 
 abbrev pub invariant-loop-i : goal.invariant-loop-i

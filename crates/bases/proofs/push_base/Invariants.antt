@@ -1,15 +1,5 @@
-use mathlib.Core.Path.{◌≡◌, refl, ap, ◌∙◌, sym}
-use mathlib.Core.List.{List}
-use mathlib.Core.Option.{some-ne-none}
-use Prim.Native.Nat.{◌+◌, ◌-◌, ◌≤◌, ◌<◌}
-use native.Mathlib.Omega.{arith}
-use lib.ListN.{length}
-use Rattle.buffers.specs.Writes.{place_says}
-use Rattle.rows.specs.Columns as columns
-use Rattle.rows.specs.Layout.{rows_at}
-use Rattle.rows.proofs.Laws.{rows-narrow}
-use Rattle.bases.specs.Candidates.{CandidateIs}
-use Rattle.bases.proofs.Laws.{Searching, search-start, search-seen, search-more, search-on, search-found, search-over, search-past, candidates-most}
+use Prim.Native.Nat.{◌+◌, ◌-◌}
+use Rattle.bases.proofs.Laws.{Searching}
 use Rattle.bases.proofs.push_base.Given as goal
 
 abbrev pub invariant-loop-i : goal.invariant-loop-i

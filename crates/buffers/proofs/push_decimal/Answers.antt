@@ -14,6 +14,7 @@ pub slice_bounds-push-end : goal.slice_bounds-push-end
 slice_bounds-push-end c = simp length-set (omega (arith, c.loop-rest.invariant.long))
 
 pub returns : goal.returns
-returns c = let text = digits-done c.loop-rest.invariant (omega (arith, c.loop-rest-test.false)) in
+returns c =
+    let text = digits-done c.loop-rest.invariant (omega (arith, c.loop-rest-test.false)) in
     let wrote = c.push.ensures in
     rw (← text) wrote

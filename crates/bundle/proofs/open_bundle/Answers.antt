@@ -10,11 +10,13 @@ pub returns-in_default : goal.returns-in_default
 returns-in_default c = says-and-is _ (no-tables _ c.if-s-gt65536.false (told c.read_line.ensures c.in_default.is))
 
 pub returns-in_default-read_line : goal.returns-in_default-read_line
-returns-in_default-read_line c = let tables = told c.read_line.ensures c.in-Value.is in
+returns-in_default-read_line c =
+    let tables = told c.read_line.ensures c.in-Value.is in
     says-and-is _ (no-strings _ c.if-s-gt65536.false tables (told c.read_line-2.ensures c.in_default-read_line.is))
 
 pub returns-in_default-read_line-2 : goal.returns-in_default-read_line-2
-returns-in_default-read_line-2 c = let tables = told c.read_line.ensures c.in-Value.is in
+returns-in_default-read_line-2 c =
+    let tables = told c.read_line.ensures c.in-Value.is in
     let strings = told c.read_line-2.ensures c.in-Value-read_line.is in
     says-and-is _ (no-blob _ c.if-s-gt65536.false tables strings (told c.read_line-3.ensures c.in_default-read_line-2.is))
 
@@ -29,7 +31,8 @@ lay-requires c = lines_fit
     c.in-Value-read_line-2.is
 
 pub returns : goal.returns
-returns c = let tables = told c.read_line.ensures c.in-Value.is in
+returns c =
+    let tables = told c.read_line.ensures c.in-Value.is in
     let strings = told c.read_line-2.ensures c.in-Value-read_line.is in
     let blob = told c.read_line-3.ensures c.in-Value-read_line-2.is in
     says-and-is _ (c.lay.ensures ∙ all_lines _ c.if-s-gt65536.false tables strings blob)

@@ -1,9 +1,7 @@
 use mathlib.Core.Path.{◌≡◌}
 use Prim.Native.Nat.{◌-◌, ◌≤◌}
-use native.Mathlib.Omega.{arith}
 use lib.ListN.{length, drop}
 use Rattle.bundle.specs.Input.{more_digits, number_at}
-use Rattle.bundle.proofs.Input.{number_past, number-none, number-first, more-end, more-line, more-zero, more-none, more-over, more-digit}
 use Rattle.bundle.proofs.read_number.Given as goal
 
 abbrev pub invariant-loop-i : goal.invariant-loop-i

@@ -8,14 +8,16 @@ use Rattle.c_questions.proofs.Asked.{asked-number, no_number}
 use Rattle.c_asks.proofs.ask_number.Goals as goal
 
 pub returns-in-Question : goal.returns-in-Question
-returns-in-Question c = let a = c.args in
+returns-in-Question c =
+    let a = c.args in
     let asked = sym (ap number_meant c.in-Question.is) ∙ c.number_asked.ensures in
     let r = c.ask_number.result in
     subst (λ (o : Options). NumberedCharged (asked_number (number_asked a.question a.a a.b) (view o a.tables.now a.strings.now a.blob.now) a.steps) r.reply r.left) c.options_of-meant.ensures
     (asked-number _ a.steps asked c.ask_number.ensures)
 
 pub returns-in-NoQuestion : goal.returns-in-NoQuestion
-returns-in-NoQuestion c = let a = c.args in
+returns-in-NoQuestion c =
+    let a = c.args in
     let asked = sym (ap number_meant c.in-NoQuestion.is) ∙ c.number_asked.ensures in
     subst (λ (o : Options). NumberedCharged (asked_number (number_asked a.question a.a a.b) (view o a.tables.now a.strings.now a.blob.now) a.steps) (No c.refused_question-why.result) a.steps) c.options_of-meant.ensures
     (no_number _ _ _ _ a.steps c.refused_question-why.ensures asked)

@@ -1,4 +1,3 @@
-
 use Rattle.c_listing.proofs.told_cursor.Goals as goal
 
 pub returns : goal.returns

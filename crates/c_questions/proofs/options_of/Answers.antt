@@ -1,4 +1,3 @@
-
 use Rattle.c_questions.proofs.options_of.Goals as goal
 
 pub returns : goal.returns

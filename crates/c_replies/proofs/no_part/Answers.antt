@@ -1,4 +1,3 @@
-
 use Rattle.c_replies.proofs.no_part.Goals as goal
 
 pub returns : goal.returns

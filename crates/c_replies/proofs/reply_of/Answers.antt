@@ -1,4 +1,3 @@
-
 use Rattle.c_replies.proofs.reply_of.Goals as goal
 
 pub returns-in-Is : goal.returns-in-Is

@@ -1,4 +1,3 @@
-
 use Rattle.c_section.proofs.told_section.Goals as goal
 
 pub returns-in-Written : goal.returns-in-Written

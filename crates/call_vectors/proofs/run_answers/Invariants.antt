@@ -1,7 +1,5 @@
 use Prim.Native.Nat.{◌-◌, ◌≤◌}
-use native.Mathlib.Omega.{arith}
 use lib.ListN.{length}
-use Rattle.heaps.proofs.Lookups.{find-within}
 use Rattle.call_vectors.proofs.run_answers.Given as goal
 
 abbrev pub invariant-loop-at : goal.invariant-loop-at

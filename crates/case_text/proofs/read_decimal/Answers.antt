@@ -1,7 +1,4 @@
-use mathlib.Core.Path.{◌≡◌}
-use Prim.Native.Nat.{◌-◌, ◌≤◌}
-use lib.ListN.{length}
-use Rattle.case_text.specs.Digits.{worth}
+use Prim.Native.Nat.{◌-◌}
 use Rattle.case_text.proofs.Laws.{worth-none, worth-more, worth-all}
 use borrow.Author.Rules.{rules}
 use Rattle.case_text.proofs.read_decimal.Goals as goal

@@ -2,7 +2,6 @@ use mathlib.Core.Path.{◌≡◌}
 use Prim.Native.Nat.{◌-◌, ◌≤◌}
 use lib.ListN.{length}
 use Rattle.case_text.specs.Digits.{worth}
-use Rattle.case_text.proofs.Laws.{worth-none, worth-more, worth-all}
 use Rattle.case_text.proofs.read_decimal.Given as goal
 
 abbrev pub invariant-loop-i : goal.invariant-loop-i

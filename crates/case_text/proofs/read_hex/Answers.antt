@@ -1,7 +1,4 @@
-use Prim.Native.Nat.{◌-◌, ◌/◌, ◌≤◌}
-use lib.ListN.{length}
-use Rattle.buffers.specs.Writes.{Wrote}
-use Rattle.case_text.specs.Digits.{hex_bytes}
+use Prim.Native.Nat.{◌-◌}
 use Rattle.case_text.proofs.Laws.{hex-none, hex-more, hex-all}
 use borrow.Author.Rules.{rules}
 use Rattle.case_text.proofs.read_hex.Goals as goal

@@ -2,7 +2,6 @@ use Prim.Native.Nat.{◌-◌, ◌/◌, ◌≤◌}
 use lib.ListN.{length}
 use Rattle.buffers.specs.Writes.{Wrote}
 use Rattle.case_text.specs.Digits.{hex_bytes}
-use Rattle.case_text.proofs.Laws.{hex-none, hex-more, hex-all}
 use Rattle.case_text.proofs.read_hex.Given as goal
 
 abbrev pub invariant-loop-i : goal.invariant-loop-i

@@ -18,7 +18,8 @@ pub returns-then-types-gt-CEILING : goal.returns-then-types-gt-CEILING
 returns-then-types-gt-CEILING c = λ strings e. absurd (subst T (sym e) tt)
 
 pub overflow_sub-types : goal.overflow_sub-types
-overflow_sub-types c = let sized = c.larger-types.ensures in
+overflow_sub-types c =
+    let sized = c.larger-types.ensures in
     one-at-least _ (omega (arith, c.if-types-gt-CEILING.false)) (omega (arith, sized.1))
 
 pub returns : goal.returns

@@ -13,7 +13,8 @@ pub overflow_sub-place : goal.overflow_sub-place
 overflow_sub-place c = omega (arith, (class-found c.class_row.ensures c.in-Row.is).0)
 
 pub read_column-flags-requires : goal.read_column-flags-requires
-read_column-flags-requires c = let laid = c.requires in
+read_column-flags-requires c =
+    let laid = c.requires in
     let at = class-found c.class_row.ensures c.in-Row.is in
     record { laid = laid; column_lt_count = (omega arith, omega (arith, at.0, at.1, same_rows laid columns.type_name columns.type_flags (omega arith) (omega arith) refl)) }
 

@@ -6,7 +6,8 @@ use Rattle.class_answers.proofs.Layouts.{row_inside, packing-is, no-packing}
 use Rattle.class_answers.proofs.class_packing_of.Goals as goal
 
 pub read_column-packing-requires : goal.read_column-packing-requires
-read_column-packing-requires c = let laid = c.requires in
+read_column-packing-requires c =
+    let laid = c.requires in
     let inside = row_inside c.layout_row.ensures c.in-At.is in
     record { laid = laid; column_lt_count = (omega arith, omega (arith, inside, same_rows laid columns.layout_parent columns.packing_size (omega arith) (omega arith) refl)) }
 

@@ -6,7 +6,8 @@ use Rattle.class_answers.proofs.Layouts.{row_inside, size_is, no_size}
 use Rattle.class_answers.proofs.class_size_of.Goals as goal
 
 pub read_column-size-requires : goal.read_column-size-requires
-read_column-size-requires c = let laid = c.requires in
+read_column-size-requires c =
+    let laid = c.requires in
     let inside = row_inside c.layout_row.ensures c.in-At.is in
     record { laid = laid; column_lt_count = (omega arith, omega (arith, inside, same_rows laid columns.layout_parent columns.class_size (omega arith) (omega arith) refl)) }
 

@@ -9,7 +9,8 @@ pub class_row-requires : goal.class_row-requires
 class_row-requires c = (rows-narrow c.requires columns.type_name (omega arith), c.requires.size)
 
 pub returns-in-Row : goal.returns-in-Row
-returns-in-Row c = let laid = c.requires in
+returns-in-Row c =
+    let laid = c.requires in
     row_is laid _ (class-found c.class_row.ensures c.in-Row.is) c.find_key.ensures
 
 pub returns-in-NoRow : goal.returns-in-NoRow

@@ -9,7 +9,8 @@ pub class_row-requires : goal.class_row-requires
 class_row-requires c = (rows-narrow c.requires columns.type_name (omega arith), c.requires.size)
 
 pub pass_bases-requires : goal.pass_bases-requires
-pass_bases-requires c = let at = class-found c.class_row.ensures c.in-Row.is in
+pass_bases-requires c =
+    let at = class-found c.class_row.ensures c.in-Row.is in
     record { laid = c.requires; lt_row = (omega (arith, at.0), omega (arith, at.0, at.1)) }
 
 pub returns-in-Row : goal.returns-in-Row

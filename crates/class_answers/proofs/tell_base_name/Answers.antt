@@ -9,11 +9,13 @@ pub class_row-requires : goal.class_row-requires
 class_row-requires c = (rows-narrow c.requires.laid columns.type_name (omega arith), c.requires.laid.size)
 
 pub push_base-based-requires : goal.push_base-based-requires
-push_base-based-requires c = let at = class-found c.class_row.ensures c.in-Row.is in
+push_base-based-requires c =
+    let at = class-found c.class_row.ensures c.in-Row.is in
     record { laid = c.requires.laid; lt_row = (omega (arith, at.0), omega (arith, at.0, at.1)); knows_bases = c.requires.knows_bases }
 
 pub returns-in-Row : goal.returns-in-Row
-returns-in-Row c = let pushed = c.push_base-based.ensures in (
+returns-in-Row c =
+    let pushed = c.push_base-based.ensures in (
       class-base c.requires.laid _ _ _ (class-found c.class_row.ensures c.in-Row.is) _ (c.told_base.ensures _ _ _ _ pushed.0),
       pushed.1,
     )

@@ -14,7 +14,8 @@ pub overflow_sub-i : goal.overflow_sub-i
 overflow_sub-i c = omega (arith, (class-found c.class_row.ensures c.in-Row.is).0)
 
 pub missing_reason-requires : goal.missing_reason-requires
-missing_reason-requires c = let at = class-found c.class_row.ensures c.in-Row.is in
+missing_reason-requires c =
+    let at = class-found c.class_row.ensures c.in-Row.is in
     record { laid = c.requires; column_lt_count = (omega arith, omega (arith, at.0, at.1)) }
 
 pub returns-in-Next : goal.returns-in-Next

@@ -5,7 +5,8 @@ use Rattle.c_replies.proofs.Laws.{told-number-charged}
 use Rattle.dotnet_c.proofs.dn_base_count.Goals as goal
 
 pub returns : goal.returns
-returns c = let a = c.args in
+returns c =
+    let a = c.args in
     told-number-charged c.options_of.ensures a.tables.now a.strings.now a.blob.now c.reply_charged.ensures
     (λ (v : View). number_charged (BaseCount a.class) v a.steps.now)
     c.base_count.ensures

@@ -1,5 +1,5 @@
-use Rattle.std.proofs.Common.{◌-◌, arith, rules}
-use Rattle.escapes.proofs.Writing.{Away, away-start, at_most, next-most, away-turn, away-done}
+use Rattle.std.proofs.Common.{◌-◌, arith}
+use Rattle.escapes.proofs.Writing.{away-start, at_most, next-most, away-turn, away-done}
 use Rattle.escapes.proofs.copy_away.Goals as goal
 
 pub loop-i-init : goal.loop-i-init
@@ -18,7 +18,8 @@ pub copy_eight-requires-in-loop-i : goal.copy_eight-requires-in-loop-i
 copy_eight-requires-in-loop-i c = (omega (arith, c.requires.2, c.loop-i.invariant.kept.long, c.copy_eight.ensures.long, c.loop-i-test.true), omega (arith, c.requires.2, c.loop-i.invariant.kept.long, c.copy_eight.ensures.long, c.loop-i-test.true))
 
 pub loop-i-preserved : goal.loop-i-preserved
-loop-i-preserved c = let one = away-turn c.requires.1 c.requires.2 c.loop-i.invariant (at_most c.loop-i-test.true) c.copy_eight.ensures in
+loop-i-preserved c =
+    let one = away-turn c.requires.1 c.requires.2 c.loop-i.invariant (at_most c.loop-i-test.true) c.copy_eight.ensures in
     away-turn c.requires.1 c.requires.2 one (next-most c.loop-i-test.true) c.copy_eight-in-loop-i.ensures
 
 pub shape_of-out : goal.shape_of-out

@@ -1,5 +1,5 @@
-use Rattle.std.proofs.Common.{◌-◌, arith, rules}
-use Rattle.escapes.proofs.Writing.{Away, away-start, at_most, next-most, away-turn, away-done}
+use Rattle.std.proofs.Common.{◌-◌}
+use Rattle.escapes.proofs.Writing.{Away}
 use Rattle.escapes.proofs.copy_away.Given as goal
 
 abbrev pub invariant-loop-i : goal.invariant-loop-i

@@ -1,4 +1,3 @@
-use Rattle.std.proofs.Common.{rules}
 use Rattle.escapes.proofs.copy_eight.Goals as goal
 
 pub returns : goal.returns

@@ -1,8 +1,6 @@
-use Rattle.std.proofs.Common.{ℕ, ◌-◌, ◌≤◌, List, ◌∙◌, arith, rules}
-use borrow.Author.Tests.{not-false}
+use Rattle.std.proofs.Common.{ℕ, ◌-◌, ◌≤◌, List}
 use Rattle.buffers.specs.Writes.{Kept}
 use Rattle.escapes.specs.Escapes.{Stands}
-use Rattle.escapes.proofs.Writing.{stands-none, stands-eight, stands-more, stands-done, stands-then}
 use Rattle.escapes.proofs.escape.Given as goal
 
 abbrev pub invariant-loop-i : goal.invariant-loop-i

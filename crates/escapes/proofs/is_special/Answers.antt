@@ -1,4 +1,4 @@
-use Rattle.std.proofs.Common.{arith, rules}
+use Rattle.std.proofs.Common.{arith}
 use Rattle.escapes.proofs.Writing.{special-high, special-low, special-else}
 use Rattle.escapes.proofs.is_special.Goals as goal
 

@@ -1,5 +1,4 @@
-use Rattle.std.proofs.Common.{◌-◌, ◌≤◌, arith, rules}
-use Rattle.buffers.specs.Writes.{Kept}
+use Rattle.std.proofs.Common.{◌-◌}
 use Rattle.buffers.proofs.Writing.{kept_same}
 use Rattle.escapes.proofs.Writing.{pad-turn}
 use Rattle.escapes.proofs.pad.Goals as goal

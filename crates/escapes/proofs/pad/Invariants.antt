@@ -1,7 +1,5 @@
-use Rattle.std.proofs.Common.{◌-◌, ◌≤◌, arith, rules}
+use Rattle.std.proofs.Common.{◌-◌}
 use Rattle.buffers.specs.Writes.{Kept}
-use Rattle.buffers.proofs.Writing.{kept_same}
-use Rattle.escapes.proofs.Writing.{pad-turn}
 use Rattle.escapes.proofs.pad.Given as goal
 
 abbrev pub invariant-loop-i : goal.invariant-loop-i

@@ -1,4 +1,4 @@
-use Rattle.std.proofs.Common.{refl, rules}
+use Rattle.std.proofs.Common.{refl}
 use Rattle.escapes.proofs.Writing.{plain-above, byte-percent, byte-plain}
 use Rattle.escapes.proofs.put_byte.Goals as goal
 

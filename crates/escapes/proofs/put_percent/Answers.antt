@@ -1,4 +1,4 @@
-use Rattle.std.proofs.Common.{arith, length-set, rules}
+use Rattle.std.proofs.Common.{arith, length-set}
 use Rattle.escapes.proofs.Writing.{halves_small, letters-small, digits-small, percent-put}
 use Rattle.escapes.proofs.put_percent.Goals as goal
 

@@ -1,4 +1,4 @@
-use Rattle.std.proofs.Common.{arith, length-set, rules}
+use Rattle.std.proofs.Common.{arith, length-set}
 use Rattle.escapes.proofs.Writing.{low₂-small, halves₂-small, letters₂-small, second-small, two-put}
 use Rattle.escapes.proofs.put_two.Goals as goal
 

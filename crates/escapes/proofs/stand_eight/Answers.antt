@@ -1,4 +1,3 @@
-use Rattle.std.proofs.Common.{rules}
 use Rattle.escapes.proofs.stand_eight.Goals as goal
 
 pub returns : goal.returns

@@ -1,4 +1,4 @@
-use Rattle.std.proofs.Common.{◌≡◌, ℕ, arith, rules, eqb-true}
+use Rattle.std.proofs.Common.{◌≡◌, ℕ, arith, eqb-true}
 use Rattle.escapes.proofs.Words.{stand-wrapped}
 use Rattle.escapes.proofs.stand_word.Goals as goal
 
@@ -7,4 +7,4 @@ returns-then-x-ne0 c = λ s at bytes is e. let z : ◌≡◌ {A = ℕ} 0 1 = cc 
 
 pub returns : goal.returns
 returns c = λ s at bytes is e.
-    stand-wrapped s at bytes is c.wrapping_sub_u64-x.type-inv c.wrapping_sub_u64-x.ensures c.if-x-ne0.false c.wrapping_add_u64.ensures (eqb-true _ _ e)
+    stand-wrapped s at bytes is c.wrapping_sub_u64-x.type_inv c.wrapping_sub_u64-x.ensures.value c.if-x-ne0.false c.wrapping_add_u64.ensures.value (eqb-true _ _ e)

@@ -1,5 +1,5 @@
-use Rattle.std.proofs.Common.{◌-◌, refl, arith, rules}
-use Rattle.escapes.proofs.Writing.{Anew, special-above, byte-percent, two-percents, anew-start, anew-before, anew-room, anew-byte, anew-two, anew-eight, anew-rest, anew-done}
+use Rattle.std.proofs.Common.{◌-◌}
+use Rattle.escapes.proofs.Writing.{Anew}
 use Rattle.escapes.proofs.write_anew.Given as goal
 
 abbrev pub invariant-loop-from : goal.invariant-loop-from

@@ -1,4 +1,4 @@
-use Rattle.std.proofs.Common.{arith, length-set, rules}
+use Rattle.std.proofs.Common.{arith, length-set}
 use Rattle.escapes.proofs.Writing.{eight-written}
 use Rattle.escapes.proofs.write_eight.Goals as goal
 

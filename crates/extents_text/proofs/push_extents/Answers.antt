@@ -5,7 +5,8 @@ use Rattle.extents_text.proofs.Lines.{text-streams, text-malformed}
 use Rattle.extents_text.proofs.push_extents.Goals as goal
 
 pub returns-in-Streams : goal.returns-in-Streams
-returns-in-Streams c = let is = sym c.in-Streams.is ∙ c.open_bundle.ensures.1 in
+returns-in-Streams c =
+    let is = sym c.in-Streams.is ∙ c.open_bundle.ensures.1 in
     let bytes = (cut-is _ _ _ _ (streams-within _ is).0 c.cut.ensures).bytes in
     text-streams _ is bytes c.walk_by.ensures c.push_walk.ensures
 

@@ -1,7 +1,4 @@
-use Prim.Native.Nat.{◌-◌, ◌≤◌}
-use Rattle.buffers.specs.Writes.{Wrote}
-use Rattle.tables.specs.Extents.{walk_says}
-use Rattle.extents_text.specs.Lines.{kind_lines}
+use Prim.Native.Nat.{◌-◌}
 use Rattle.extents_text.proofs.Lines.{kinds-none, kinds-more, kinds-all}
 use borrow.Author.Rules.{rules}
 use Rattle.extents_text.proofs.push_kinds.Goals as goal

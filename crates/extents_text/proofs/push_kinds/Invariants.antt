@@ -2,7 +2,6 @@ use Prim.Native.Nat.{◌-◌, ◌≤◌}
 use Rattle.buffers.specs.Writes.{Wrote}
 use Rattle.tables.specs.Extents.{walk_says}
 use Rattle.extents_text.specs.Lines.{kind_lines}
-use Rattle.extents_text.proofs.Lines.{kinds-none, kinds-more, kinds-all}
 use Rattle.extents_text.proofs.push_kinds.Given as goal
 
 abbrev pub invariant-loop-kind : goal.invariant-loop-kind

@@ -1,4 +1,3 @@
-
 use Rattle.extents_text.proofs.push_refused.Goals as goal
 
 pub returns : goal.returns

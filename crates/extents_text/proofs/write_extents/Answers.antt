@@ -7,5 +7,6 @@ use Rattle.buffers.proofs.Replies.{named-text}
 use Rattle.extents_text.proofs.write_extents.Goals as goal
 
 pub returns : goal.returns
-returns c = let w = c.push_extents-end.ensures in
+returns c =
+    let w = c.push_extents-end.ensures in
     (w.place ∙ ap (λ (k : ℕ). min k (length c.args.out.now + 1)) (zero-add (length (extents_text c.args.input.now))), (named-text w c.finish.ensures).buffer)

@@ -1,12 +1,9 @@
-use mathlib.Core.Path.{◌≡◌, refl, ◌∙◌}
+use mathlib.Core.Path.{◌≡◌}
 use mathlib.Core.List.{List}
 use Prim.Native.Nat.{ℕ, ◌+◌, ◌-◌, ◌≤◌}
-use native.Mathlib.Nat.{le_refl}
-use native.Mathlib.Omega.{arith}
 use lib.ListN.{length}
 use Rattle.frames.specs.Stack.{stack, Ascends}
 use Rattle.frames.specs.declared.Ascent.{Ascent}
-use Rattle.frames.proofs.Turns as turns
 use Rattle.frames.proofs.ascend.Given as goal
 
 abbrev pub invariant-loop-n : goal.invariant-loop-n

@@ -1,14 +1,7 @@
-use mathlib.Core.Path.{◌≡◌, refl, sym, ap, ◌∙◌}
-use Prim.Native.Nat.{◌+◌, ◌-◌, ◌<◌, ◌≤◌}
-use native.Mathlib.Nat.{le_refl}
-use native.Mathlib.Omega.{arith}
+use mathlib.Core.Path.{◌≡◌}
+use Prim.Native.Nat.{◌+◌, ◌-◌, ◌≤◌}
 use lib.ListN.{length}
-use Rattle.numbers.specs.Compressed.{uint_says}
 use Rattle.frames.specs.Stack.{stack, Moves}
-use Rattle.frames.specs.Stack as spec
-use Rattle.frames.proofs.Turns as turns
-use mathlib.Core.Logic.{inl, inr}
-use lib.ListN.{set, length-set}
 use Rattle.frames.proofs.descend.Given as goal
 
 abbrev pub invariant-loop-p : goal.invariant-loop-p

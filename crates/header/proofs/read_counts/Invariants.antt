@@ -1,8 +1,5 @@
-use mathlib.Core.Path.{◌≡◌}
-use mathlib.Core.Logic.{⊎_elim}
-use Prim.Native.Nat.{ℕ, ◌-◌}
-use native.Mathlib.Omega.{arith}
-use Rattle.header.proofs.CountLoop.{Counting, begin, room, over, taken, skipped, some_left, none_left}
+use Prim.Native.Nat.{◌-◌}
+use Rattle.header.proofs.CountLoop.{Counting}
 use Rattle.header.proofs.read_counts.Given as goal
 
 abbrev pub invariant-loop-m : goal.invariant-loop-m

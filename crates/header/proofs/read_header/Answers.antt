@@ -1,4 +1,4 @@
-use mathlib.Core.Path.{◌≡◌, ◌∙◌, sym}
+use mathlib.Core.Path.{◌∙◌, sym}
 use native.Mathlib.Omega.{arith}
 use Rattle.numbers.proofs.Bits.{ones-most}
 use Rattle.header.proofs.Cases.{end_is, is-short, is_cut, is-over, is-opened}
@@ -14,20 +14,24 @@ pub overflow_add-end : goal.overflow_add-end
 overflow_add-end c = omega (arith, c.count_ones.ensures, ones-most c.read_le-mask.result 64)
 
 pub returns-then-s-end : goal.returns-then-s-end
-returns-then-s-end c = let e = end_is _ _ _ c.read_le-mask.ensures c.count_ones.ensures in
+returns-then-s-end c =
+    let e = end_is _ _ _ c.read_le-mask.ensures c.count_ones.ensures in
     c.refuse-then-s-end.ensures ∙ is_cut _ _ c.if-s-lt24.false (omega (arith, c.if-s-end.true, e))
 
 pub read_counts-read-requires : goal.read_counts-read-requires
-read_counts-read-requires c = let e = end_is _ _ _ c.read_le-mask.ensures c.count_ones.ensures in
+read_counts-read-requires c =
+    let e = end_is _ _ _ c.read_le-mask.ensures c.count_ones.ensures in
     (c.read_le-mask.ensures, omega (arith, c.if-s-end.false, e))
 
 pub returns-then-read : goal.returns-then-read
-returns-then-read c = let e = end_is _ _ _ c.read_le-mask.ensures c.count_ones.ensures in
+returns-then-read c =
+    let e = end_is _ _ _ c.read_le-mask.ensures c.count_ones.ensures in
     c.refuse-then-read.ensures
     ∙ is-over _ _ c.if-s-lt24.false (omega (arith, c.if-s-end.false, e)) (sym c.read_counts-read.ensures.tells ∙ c.if-read.true)
 
 pub returns : goal.returns
-returns c = let few = c.if-read.false in
+returns c =
+    let few = c.if-read.false in
     let e = end_is _ _ _ c.read_le-mask.ensures c.count_ones.ensures in
     is-opened _ _ c.if-s-lt24.false (omega (arith, c.if-s-end.false, e)) (sym c.read_counts-read.ensures.tells ∙ few) _ _ _
     e c.tables_start-first.ensures (c.read_counts-read.ensures.all few)

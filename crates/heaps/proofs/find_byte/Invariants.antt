@@ -1,6 +1,5 @@
-use Rattle.std.proofs.Common.{◌≡◌, ◌+◌, ◌-◌, length, drop, refl, ◌∙◌, arith, rules}
+use Rattle.std.proofs.Common.{◌≡◌, ◌+◌, ◌-◌, length, drop}
 use Rattle.heaps.specs.Lookups.{before}
-use Rattle.heaps.proofs.Lookups.{not-not, find_past, find-end}
 use Rattle.heaps.proofs.find_byte.Given as goal
 
 abbrev pub invariant-loop-i : goal.invariant-loop-i

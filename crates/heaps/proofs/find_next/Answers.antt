@@ -1,5 +1,4 @@
-use Rattle.std.proofs.Common.{◌≡◌, ◌+◌, ◌-◌, length, drop, refl, rules}
-use Rattle.heaps.specs.Lookups.{before}
+use Rattle.std.proofs.Common.{◌-◌, refl}
 use Rattle.heaps.proofs.Lookups.{find-end, find-hit, find-step}
 use Rattle.heaps.proofs.find_next.Goals as goal
 

@@ -1,6 +1,5 @@
-use Rattle.std.proofs.Common.{◌≡◌, ◌+◌, ◌-◌, length, drop, refl, rules}
+use Rattle.std.proofs.Common.{◌≡◌, ◌+◌, ◌-◌, length, drop}
 use Rattle.heaps.specs.Lookups.{before}
-use Rattle.heaps.proofs.Lookups.{find-end, find-hit, find-step}
 use Rattle.heaps.proofs.find_next.Given as goal
 
 abbrev pub invariant-loop-i : goal.invariant-loop-i

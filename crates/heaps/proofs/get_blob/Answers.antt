@@ -1,4 +1,4 @@
-use Rattle.std.proofs.Common.{sym, ap, ◌∙◌, arith, rules}
+use Rattle.std.proofs.Common.{sym, ap, ◌∙◌, arith}
 use Rattle.numbers.specs.Compressed.{uint_says}
 use Rattle.numbers.proofs.Compressed.{uint-ends}
 use Rattle.heaps.proofs.Lookups.{blob-none, blob-found, blob-cut}

@@ -1,4 +1,4 @@
-use Rattle.std.proofs.Common.{arith, rules}
+use Rattle.std.proofs.Common.{arith}
 use Rattle.heaps.proofs.Lookups.{string-null, string-past, string-open, string-found}
 use Rattle.heaps.proofs.get_string.Goals as goal
 

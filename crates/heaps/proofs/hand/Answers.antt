@@ -5,7 +5,8 @@ use borrow.Author.Rules.{rules}
 use Rattle.heaps.proofs.hand.Goals as goal
 
 pub returns-in-Found : goal.returns-in-Found
-returns-in-Found c = let is = c.in-Found.is in
+returns-in-Found c =
+    let is = c.in-Found.is in
     let s = c.args.s in
     rw is (record { number = refl; reason = refl; part = cut-is _ s _ _ (subst (Inside s.now) is c.requires) c.cut.ensures })
 

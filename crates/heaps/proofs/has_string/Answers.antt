@@ -1,4 +1,3 @@
-use Rattle.std.proofs.Common.{arith, rules}
 use Rattle.heaps.proofs.Lookups.{there-null, there-past, there-ended, there-sought}
 use Rattle.heaps.proofs.has_string.Goals as goal
 

@@ -1,5 +1,4 @@
 use Rattle.heaps.proofs.Lookups.{string-inside, blob-inside}
-use Rattle.std.proofs.Common.{rules}
 use Rattle.heaps.proofs.lookup.Goals as goal
 
 pub hand-requires : goal.hand-requires

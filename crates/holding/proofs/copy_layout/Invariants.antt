@@ -1,11 +1,8 @@
-use mathlib.Core.Path.{◌≡◌, refl, sym, ◌∙◌}
+use mathlib.Core.Path.{◌≡◌}
 use Prim.Native.Nat.{◌-◌}
-use native.Mathlib.Omega.{arith}
-use lib.ListN.{length, length-set}
-use lib.Seq.{length-take-le}
-use Rattle.numbers.proofs.Lists.{front_length, front-zero}
+use lib.ListN.{length}
 use Rattle.rows.specs.Columns as columns
-use Rattle.holding.proofs.Laws.{Copying, copy_start, copy-turn, copy-end}
+use Rattle.holding.proofs.Laws.{Copying}
 use Rattle.holding.proofs.copy_layout.Given as goal
 
 abbrev pub invariant-loop-i : goal.invariant-loop-i

@@ -5,9 +5,10 @@ use Rattle.holding.proofs.Laws.{hold-done}
 use Rattle.holding.proofs.hold_sorted.Goals as goal
 
 pub overflow_add-end-2 : goal.overflow_add-end-2
-overflow_add-end-2 c = record { fits = omega (arith, c.count_rows-n.ensures, rows-narrow c.requires.laid c.args.column c.requires.column_lt_count.0.0, c.requires.column_lt_count.0.2, c.requires.column_lt_count.1.long) }
+overflow_add-end-2 c = record { fits = omega (arith, c.count_rows-n.ensures, rows-narrow c.requires.laid c.args.column c.requires.column_lt_count.0, c.requires.column_lt_count.2, c.requires.holding.long) }
 
 pub returns : goal.returns
-returns c = let end = c.args.at + c.args.keys + c.count_rows-n.result in
-    hold-done c.args.work.now c.requires.column_lt_count.1 c.args.j end c.requires.column_lt_count.0.1 (omega arith) c.if-work-end.false
-    c.sort_rows.new.0 c.sort_rows.auto.0 _ c.note_memory.ensures (c.requires.column_lt_count.0.3 _ c.sort_rows.ensures)
+returns c =
+    let end = c.args.at + c.args.keys + c.count_rows-n.result in
+    hold-done c.args.work.now c.requires.holding c.args.j end c.requires.column_lt_count.1 (omega arith) c.if-work-end.false
+    c.sort_rows.new.memory c.sort_rows.auto.memory _ c.note_memory.ensures (c.requires.column_lt_count.3 _ c.sort_rows.ensures)

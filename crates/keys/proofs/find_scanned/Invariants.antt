@@ -1,9 +1,7 @@
 use mathlib.Core.Path.{◌≡◌}
 use Prim.Native.Nat.{◌-◌, ◌≤◌}
-use native.Mathlib.Omega.{arith}
 use Rattle.rows.specs.Layout.{rows_at, cell}
 use Rattle.rows.specs.Held.{keyed}
-use Rattle.keys.proofs.Laws.{keyed-at-most, scan-over, key-met, key-passed}
 use Rattle.keys.proofs.find_scanned.Given as goal
 
 abbrev pub invariant-loop-i : goal.invariant-loop-i

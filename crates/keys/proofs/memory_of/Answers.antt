@@ -7,18 +7,21 @@ pub memory_at-requires : goal.memory_at-requires
 memory_at-requires c = asks-memory c.requires columns.by_owner (omega arith)
 
 pub returns-then-column-eq-OWNER : goal.returns-then-column-eq-OWNER
-returns-then-column-eq-OWNER c = let laid = c.requires in by-memory laid columns.owner columns.by_owner laid.generics c.if-column-eq-OWNER.true c.memory_at.ensures
+returns-then-column-eq-OWNER c =
+    let laid = c.requires in by-memory laid columns.owner columns.by_owner laid.generics c.if-column-eq-OWNER.true c.memory_at.ensures
 
 pub memory_at-requires-then-column-eq-IMPL_CLASS : goal.memory_at-requires-then-column-eq-IMPL_CLASS
 memory_at-requires-then-column-eq-IMPL_CLASS c = asks-memory c.requires columns.by_class (omega arith)
 
 pub returns-then-column-eq-IMPL_CLASS : goal.returns-then-column-eq-IMPL_CLASS
-returns-then-column-eq-IMPL_CLASS c = let laid = c.requires in
+returns-then-column-eq-IMPL_CLASS c =
+    let laid = c.requires in
     by-memory laid columns.impl_class columns.by_class laid.interfaces c.if-column-eq-IMPL_CLASS.true c.memory_at-then-column-eq-IMPL_CLASS.ensures
 
 pub memory_at-requires-then-column-eq-LAYOUT_PARENT : goal.memory_at-requires-then-column-eq-LAYOUT_PARENT
 memory_at-requires-then-column-eq-LAYOUT_PARENT c = asks-memory c.requires columns.by_parent (omega arith)
 
 pub returns-then-column-eq-LAYOUT_PARENT : goal.returns-then-column-eq-LAYOUT_PARENT
-returns-then-column-eq-LAYOUT_PARENT c = let laid = c.requires in
+returns-then-column-eq-LAYOUT_PARENT c =
+    let laid = c.requires in
     by-memory laid columns.layout_parent columns.by_parent laid.layouts c.if-column-eq-LAYOUT_PARENT.true c.memory_at-then-column-eq-LAYOUT_PARENT.ensures

@@ -9,12 +9,13 @@ use Rattle.layouts.proofs.index_sizes.Goals as goal
 
 pub returns : goal.returns
 unfolding index_sizes bit_at
-returns c = let byte = c.ranges.heap.fits in
+returns c =
+    let byte = c.ranges.heap.fits in
     made _
-    (omega (arith, c.heap_index_size-3.ensures, heap-widths _ 0 byte (lit< tt)))
+    (omega (arith, c.heap_index_size.ensures, heap-widths _ 0 byte (lit< tt)))
     (omega (arith, c.heap_index_size-2.ensures, heap-widths _ 1 byte (lit< tt)))
     (omega (arith, c.heap_index_size-3.ensures, heap-widths _ 2 byte (lit< tt)))
-    c.index_size-9.ensures
+    c.index_size.ensures
     c.index_size-2.ensures
     c.index_size-3.ensures
     c.index_size-4.ensures
@@ -23,7 +24,7 @@ returns c = let byte = c.ranges.heap.fits in
     c.index_size-7.ensures
     c.index_size-8.ensures
     c.index_size-9.ensures
-    (sized _ _ _ _ _ _ c.coded_index_size-4.ensures tt tt tt)
+    (sized _ _ _ _ _ _ c.coded_index_size.ensures tt tt tt)
     (sized _ _ _ _ _ _ c.coded_index_size-2.ensures tt tt tt)
     c.has_custom_attribute_size.ensures
     (sized _ _ _ _ _ _ c.coded_index_size-3.ensures tt tt tt)

@@ -1,4 +1,3 @@
-
 use Rattle.lines.proofs.is_missing.Goals as goal
 
 pub returns-in-No : goal.returns-in-No

@@ -1,4 +1,3 @@
-
 use borrow.Author.Rules.{rules}
 use Rattle.listing.proofs.write_opened.Goals as goal
 

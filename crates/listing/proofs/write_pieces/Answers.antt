@@ -1,7 +1,4 @@
-use mathlib.Core.Path.{◌≡◌, refl, subst}
-use lib.ListN.{length}
-use Rattle.rows.specs.Layout.{view_in}
-use Rattle.answers.specs.Known.{Knows}
+use mathlib.Core.Path.{refl, subst}
 use Rattle.charges.specs.Within.{AllFit}
 use borrow.Author.Rules.{rules}
 use Rattle.listing.proofs.write_pieces.Goals as goal

@@ -1,8 +1,7 @@
-use mathlib.Core.Path.{◌≡◌, refl, subst}
+use mathlib.Core.Path.{◌≡◌}
 use lib.ListN.{length}
 use Rattle.rows.specs.Layout.{view_in}
 use Rattle.answers.specs.Known.{Knows}
-use Rattle.charges.specs.Within.{AllFit}
 use Rattle.listing.proofs.write_pieces.Given as goal
 
 abbrev pub invariant-loop-turns : goal.invariant-loop-turns

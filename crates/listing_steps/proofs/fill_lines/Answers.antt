@@ -1,33 +1,25 @@
-use mathlib.Core.Path.{◌≡◌, refl, sym, ◌∙◌, subst}
+use mathlib.Core.Path.{refl, sym, ◌∙◌, subst}
 use lib.Dec.{T}
 use mathlib.Core.Bool.{false}
-use mathlib.Core.List.{List}
-use mathlib.Core.Logic.{⊎_elim}
-use Prim.Native.Nat.{ℕ, ◌<◌, ◌≤◌}
 use native.Mathlib.Omega.{arith}
-use borrow.Author.Tests.{not-false}
 use Rattle.numbers.proofs.Pick.{by-lt}
-use lib.ListN.{length}
-use Rattle.record.specs.View.{view}
-use Rattle.rows.specs.Layout.{view_in}
-use Rattle.answers.specs.Known.{Knows}
-use Rattle.lines.specs.Cursors.{is_over_at}
-use Rattle.lines.specs.declared.Cursor.{Cursor}
 use Rattle.lines.proofs.Ceiling.{all-at}
-use Rattle.listing_steps.specs.Filling.{Piece, Going}
 use Rattle.listing_steps.proofs.Filling.{going_done, going-full, going_on}
 use Rattle.listing_steps.proofs.Over.{next-within}
 use Rattle.listing_steps.proofs.fill_lines.Goals as goal
+use Rattle.listing_steps.proofs.fill_lines.Goals.{then-not-all+else-counts_anew, else-not-all}
 
 pub loop-left-init : goal.loop-left-init
-loop-left-init c = let pre = c.requires.by_index.1 in
-    (λ p o g. g, refl, pre.1.1.1, omega arith, λ h. omega arith, pre.0, pre.1.1.0)
+loop-left-init c =
+    let pre = c.requires in
+    (λ p o g. g, refl, pre.at_in_bounds, omega arith, λ h. omega arith, pre.knows, pre.next_value)
 
 pub shape_of-out-then-is_done : goal.shape_of-out-then-is_done
 shape_of-out-then-is_done c = omega (arith, c.loop-left.invariant.1)
 
 pub returns-then-is_done : goal.returns-then-is_done
-returns-then-is_done c = let inv = c.loop-left.invariant in (
+returns-then-is_done c =
+    let inv = c.loop-left.invariant in (
       record { going = λ p o g. going_done (inv.0 p o g) c.is_done.ensures c.if-is_done.true; fewer = λ some room. omega (arith, some); within = λ _. inv.6 },
       inv.5,
     )
@@ -40,7 +32,8 @@ shape_of-out-then-out-at-lt-LINE_ROOM c = omega (arith, c.loop-left.invariant.1)
 
 -- Where there was room, a step was taken before.
 pub returns-then-out-at-lt-LINE_ROOM : goal.returns-then-out-at-lt-LINE_ROOM
-returns-then-out-at-lt-LINE_ROOM c = let inv = c.loop-left.invariant in (
+returns-then-out-at-lt-LINE_ROOM c =
+    let inv = c.loop-left.invariant in (
       record {
         going = inv.0;
         fewer = λ some room. by-lt _ _ (λ h. h) (λ h. absurd (omega (arith, inv.4 h, inv.1, inv.2, room, c.if-out-at-lt-LINE_ROOM.true)));
@@ -50,15 +43,17 @@ returns-then-out-at-lt-LINE_ROOM c = let inv = c.loop-left.invariant in (
     )
 
 pub next_line-on-requires : goal.next_line-on-requires
-next_line-on-requires c = let inv = c.loop-left.invariant in
+next_line-on-requires c =
+    let inv = c.loop-left.invariant in
     let start = c.requires in
-    record { laid = start.0; by_index = start.1.0; knows = inv.5; line_room_in_bounds = omega (arith, c.if-out-at-lt-LINE_ROOM.false, inv.2); c_value = inv.6 }
+    record { laid = start.laid; by_index = start.by_index; knows = inv.5; line_room_in_bounds = omega (arith, c.if-out-at-lt-LINE_ROOM.false, inv.2); c_value = inv.6 }
 
 pub shape_of-out-then-out-end : goal.shape_of-out-then-out-end
 shape_of-out-then-out-end c = omega (arith, c.next_line-on.ensures.0.wrote.keeps.long, c.loop-left.invariant.1)
 
 pub returns-then-out-end : goal.returns-then-out-end
-returns-then-out-end c = let inv = c.loop-left.invariant in
+returns-then-out-end c =
+    let inv = c.loop-left.invariant in
     let line = c.next_line-on.ensures in (
       record { going = λ p o g. going-full (inv.0 p o g) line.0 c.if-out-end.true; fewer = λ some room. omega (arith, some); within = λ _. inv.6 },
       line.1,
@@ -68,7 +63,8 @@ pub shape_of-out-then-counts_anew : goal.shape_of-out-then-counts_anew
 shape_of-out-then-counts_anew c = omega (arith, c.next_line-on.ensures.0.wrote.keeps.long, c.loop-left.invariant.1)
 
 pub returns-then-counts_anew : goal.returns-then-counts_anew
-returns-then-counts_anew c = let inv = c.loop-left.invariant in
+returns-then-counts_anew c =
+    let inv = c.loop-left.invariant in
     let line = c.next_line-on.ensures in
     let more = c.loop-left-test.true in (
       record {
@@ -80,7 +76,8 @@ returns-then-counts_anew c = let inv = c.loop-left.invariant in
     )
 
 pub loop-left-preserved : goal.loop-left-preserved
-loop-left-preserved c = let inv = c.loop-left.invariant in
+loop-left-preserved c =
+    let inv = c.loop-left.invariant in
     let line = c.next_line-on.ensures in
     let more = c.loop-left-test.true in
     let fits = c.if-out-end.false in (
@@ -90,13 +87,16 @@ loop-left-preserved c = let inv = c.loop-left.invariant in
       omega (arith, more, inv.3),
       λ h. absurd (omega (arith, more, inv.3, h)),
       line.1,
-      ⊎_elim (λ w. next-within _ _ line.0 inv.6 w.1.ensures w.2.left)
-          (λ w. all-at _ (c.requires.by_index.1.1.0 (not-false _ w.left)) _) c.if-not-all.branch,
+      elim c.if-not-all.branch [
+        | then-not-all+else-counts_anew w ↦ next-within _ _ line.0 inv.6 w.counts_anew.ensures w.if-counts_anew.false
+        | else-not-all w ↦ all-at _ (c.requires.all_fit w.if-not-all.false) _
+      ],
     )
 
 pub shape_of-out : goal.shape_of-out
 shape_of-out c = omega (arith, c.loop-left.invariant.1)
 
 pub returns : goal.returns
-returns c = let inv = c.loop-left.invariant in
+returns c =
+    let inv = c.loop-left.invariant in
     (record { going = inv.0; fewer = λ some room. omega (arith, some, c.loop-left-test.false); within = λ _. inv.6 }, inv.5)

@@ -1,28 +1,20 @@
-use mathlib.Core.Path.{◌≡◌, refl, sym, ◌∙◌, subst}
-use lib.Dec.{T}
+use mathlib.Core.Path.{◌≡◌}
 use mathlib.Core.Bool.{false}
 use mathlib.Core.List.{List}
-use mathlib.Core.Logic.{⊎_elim}
-use Prim.Native.Nat.{ℕ, ◌<◌, ◌≤◌}
-use native.Mathlib.Omega.{arith}
-use borrow.Author.Tests.{not-false}
-use Rattle.numbers.proofs.Pick.{by-lt}
+use Prim.Native.Nat.{ℕ, ◌≤◌}
 use lib.ListN.{length}
 use Rattle.record.specs.View.{view}
 use Rattle.rows.specs.Layout.{view_in}
 use Rattle.answers.specs.Known.{Knows}
 use Rattle.lines.specs.Cursors.{is_over_at}
 use Rattle.lines.specs.declared.Cursor.{Cursor}
-use Rattle.lines.proofs.Ceiling.{all-at}
 use Rattle.listing_steps.specs.Filling.{Piece, Going}
-use Rattle.listing_steps.proofs.Filling.{going_done, going-full, going_on}
-use Rattle.listing_steps.proofs.Over.{next-within}
 use Rattle.listing_steps.proofs.fill_lines.Given as goal
 
 abbrev pub invariant-loop-left : goal.invariant-loop-left
 invariant-loop-left l = let v = view l.options l.tables l.strings l.blob in
-    let from : Cursor = record { l.place = l.initial.place; l.class = l.initial.class; l.method = l.initial.method; i = l.initial.item } in
-    let c : Cursor = record { l.place = l.place; l.class = l.class; l.method = l.method; i = l.item } in
+    let from : Cursor = record { place = l.initial.place; class = l.initial.class; method = l.initial.method; i = l.initial.item } in
+    let c : Cursor = record { place = l.place; class = l.class; method = l.method; i = l.item } in
     ((p : Piece) (o : List ℕ) → Going v p o l.initial.out from l.initial.at l.initial.left → Going v p o l.out c l.at l.left)
     × (length l.out ≡ length l.initial.out)
     × (l.at ≤ length l.out)

@@ -1,36 +1,30 @@
 use mathlib.Core.Bool.{true, false}
-use Rattle.lines.specs.Cursors.{is_over_at}
-use mathlib.Core.Path.{◌≡◌, refl, sym, ◌∙◌}
-use mathlib.Core.List.{List}
-use Prim.Native.Nat.{ℕ, ◌+◌, ◌<◌, ◌≤◌}
+use mathlib.Core.Path.{refl, sym, ◌∙◌}
 use native.Mathlib.Omega.{arith}
-use lib.ListN.{length}
 use Rattle.numbers.proofs.Parts.{cut-is}
-use Rattle.record.specs.View.{view}
-use Rattle.rows.specs.Layout.{view_in}
-use Rattle.answers.specs.Known.{Knows}
-use Rattle.lines.specs.Lines.{line_room}
-use Rattle.listing_steps.specs.Filling.{Piece, Going}
 use Rattle.listing_steps.proofs.Filling.{going-out, going_done, made-long, made_inside, moved-full, moved_on, moved-short}
 use borrow.Author.Rules.{rules}
 use Rattle.listing_steps.proofs.fill_rest.Goals as goal
 
 pub loop-left-init : goal.loop-left-init
-loop-left-init c = (λ p b g s. (g, s), c.requires.by_index.1.0, refl, omega arith, refl, c.requires.by_index.1.1.1)
+loop-left-init c = (λ p b g s. (g, s), c.requires.knows, refl, omega arith, refl, c.requires.next_value)
 
 pub returns-then-is_done : goal.returns-then-is_done
-returns-then-is_done c = let inv = c.loop-left.invariant in
+returns-then-is_done c =
+    let inv = c.loop-left.invariant in
     (λ d b h. going-out (going_done (inv.0 _ _ h.going h.room).0 c.is_done.ensures c.if-is_done.true) (omega arith), inv.1)
 
 pub slice_bounds-fill_some-end : goal.slice_bounds-fill_some-end
 slice_bounds-fill_some-end c = search (rules, c.loop-left.invariant.4)
 
 pub fill_some-one-requires : goal.fill_some-one-requires
-fill_some-one-requires c = let start = c.requires in
-    record { laid = start.0; by_index = start.1.0; knows = c.loop-left.invariant.1; all_fit = start.1.1.1.0; next_value = c.loop-left.invariant.5; left_nonzero = omega arith; at_in_bounds = omega arith }
+fill_some-one-requires c =
+    let start = c.requires in
+    record { laid = start.laid; by_index = start.by_index; knows = c.loop-left.invariant.1; all_fit = start.all_fit; next_value = c.loop-left.invariant.5; left_nonzero = omega arith; at_in_bounds = omega arith }
 
 pub returns-then-out-after : goal.returns-then-out-after
-returns-then-out-after c = let inv = c.loop-left.invariant in
+returns-then-out-after c =
+    let inv = c.loop-left.invariant in
     let one = c.fill_some-one.ensures in
     let undone = sym c.is_done.ensures ∙ c.if-is_done.false in
     let is = (cut-is _ _ _ _ (made_inside one.0 inv.3 undone) c.cut.ensures).bytes in (
@@ -41,7 +35,8 @@ returns-then-out-after c = let inv = c.loop-left.invariant in
     )
 
 pub loop-left-preserved : goal.loop-left-preserved
-loop-left-preserved c = let inv = c.loop-left.invariant in
+loop-left-preserved c =
+    let inv = c.loop-left.invariant in
     let one = c.fill_some-one.ensures in
     let more = c.loop-left-test.true in
     let undone = sym c.is_done.ensures ∙ c.if-is_done.false in
@@ -60,5 +55,6 @@ loop-left-preserved c = let inv = c.loop-left.invariant in
     )
 
 pub returns : goal.returns
-returns c = let inv = c.loop-left.invariant in
+returns c =
+    let inv = c.loop-left.invariant in
     (λ d b h. going-out (inv.0 _ _ h.going h.room).0 (omega (arith, c.loop-left-test.false)), inv.1)

@@ -1,17 +1,14 @@
 use mathlib.Core.Bool.{true, false}
 use Rattle.lines.specs.Cursors.{is_over_at}
-use mathlib.Core.Path.{◌≡◌, refl, sym, ◌∙◌}
+use mathlib.Core.Path.{◌≡◌}
 use mathlib.Core.List.{List}
 use Prim.Native.Nat.{ℕ, ◌+◌, ◌<◌, ◌≤◌}
-use native.Mathlib.Omega.{arith}
 use lib.ListN.{length}
-use Rattle.numbers.proofs.Parts.{cut-is}
 use Rattle.record.specs.View.{view}
 use Rattle.rows.specs.Layout.{view_in}
 use Rattle.answers.specs.Known.{Knows}
 use Rattle.lines.specs.Lines.{line_room}
 use Rattle.listing_steps.specs.Filling.{Piece, Going}
-use Rattle.listing_steps.proofs.Filling.{going-out, going_done, made-long, made_inside, moved-full, moved_on, moved-short}
 use Rattle.listing_steps.proofs.fill_rest.Given as goal
 
 abbrev pub invariant-loop-left : goal.invariant-loop-left

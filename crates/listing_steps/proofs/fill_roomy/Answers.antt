@@ -1,20 +1,13 @@
-use mathlib.Core.Path.{◌≡◌}
 use mathlib.Core.Bool.{true, false}
-use Rattle.lines.specs.Cursors.{is_over_at}
 use Rattle.lines.proofs.Ceiling.{all-at}
-use mathlib.Core.List.{[]}
 use native.Mathlib.Omega.{arith}
-use lib.ListN.{length}
-use Rattle.record.specs.View.{view}
-use Rattle.rows.specs.Layout.{view_in}
-use Rattle.answers.specs.Known.{Knows}
-use Rattle.listing_steps.specs.Filling.{piece_from, Going}
 use Rattle.listing_steps.proofs.Filling.{going_start, going-inside}
 use Rattle.listing_steps.proofs.fill_roomy.Goals as goal
 
 pub loop-r-init : goal.loop-r-init
-loop-r-init c = let pre = c.requires.by_index.1 in
-    (going_start _ _ _ _, pre.0, λ e. all-at _ (pre.1 e) _)
+loop-r-init c =
+    let pre = c.requires in
+    (going_start _ _ _ _, pre.knows, λ e. all-at _ (pre.all_fit e) _)
 
 pub overflow_sub-out : goal.overflow_sub-out
 overflow_sub-out c = omega (arith, going-inside c.loop-r.invariant.0)
@@ -23,20 +16,24 @@ pub shape_of-out-then-out-step-lt-LINE_ROOM : goal.shape_of-out-then-out-step-lt
 shape_of-out-then-out-step-lt-LINE_ROOM c = omega (arith, c.loop-r.invariant.0.wrote.keeps.long)
 
 pub returns-then-out-step-lt-LINE_ROOM : goal.returns-then-out-step-lt-LINE_ROOM
-returns-then-out-step-lt-LINE_ROOM c = let inv = c.loop-r.invariant in
+returns-then-out-step-lt-LINE_ROOM c =
+    let inv = c.loop-r.invariant in
     (record { going = inv.0; room = λ h. omega (arith, c.if-out-step-lt-LINE_ROOM.true, going-inside inv.0, inv.0.wrote.keeps.long); within = inv.2 }, inv.1)
 
 pub fill_some-r-requires : goal.fill_some-r-requires
-fill_some-r-requires c = let inv = c.loop-r.invariant in
+fill_some-r-requires c =
+    let inv = c.loop-r.invariant in
     let start = c.requires in
-    record { laid = start.0; by_index = start.1.0; knows = inv.1; all_fit = start.1.1.1; next_value = inv.2; left_nonzero = c.loop-r-test.true; at_in_bounds = going-inside inv.0 }
+    record { laid = start.laid; by_index = start.by_index; knows = inv.1; all_fit = start.all_fit; next_value = inv.2; left_nonzero = c.loop-r-test.true; at_in_bounds = going-inside inv.0 }
 
 pub loop-r-smaller : goal.loop-r-smaller
-loop-r-smaller c = let inv = c.loop-r.invariant in
+loop-r-smaller c =
+    let inv = c.loop-r.invariant in
     c.fill_some-r.ensures.0.fewer c.loop-r-test.true (omega (arith, c.if-out-step-lt-LINE_ROOM.false, going-inside inv.0))
 
 pub loop-r-preserved : goal.loop-r-preserved
-loop-r-preserved c = let inv = c.loop-r.invariant in
+loop-r-preserved c =
+    let inv = c.loop-r.invariant in
     let some = c.fill_some-r.ensures in
     (some.0.going _ _ inv.0, some.1, some.0.within)
 
@@ -44,5 +41,6 @@ pub shape_of-out : goal.shape_of-out
 shape_of-out c = omega (arith, c.loop-r.invariant.0.wrote.keeps.long)
 
 pub returns : goal.returns
-returns c = let inv = c.loop-r.invariant in
+returns c =
+    let inv = c.loop-r.invariant in
     (record { going = inv.0; room = λ h. absurd (omega (arith, h, c.loop-r-test.false)); within = inv.2 }, inv.1)

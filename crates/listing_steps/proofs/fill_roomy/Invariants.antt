@@ -1,15 +1,12 @@
 use mathlib.Core.Path.{◌≡◌}
 use mathlib.Core.Bool.{true, false}
 use Rattle.lines.specs.Cursors.{is_over_at}
-use Rattle.lines.proofs.Ceiling.{all-at}
 use mathlib.Core.List.{[]}
-use native.Mathlib.Omega.{arith}
 use lib.ListN.{length}
 use Rattle.record.specs.View.{view}
 use Rattle.rows.specs.Layout.{view_in}
 use Rattle.answers.specs.Known.{Knows}
 use Rattle.listing_steps.specs.Filling.{piece_from, Going}
-use Rattle.listing_steps.proofs.Filling.{going_start, going-inside}
 use Rattle.listing_steps.proofs.fill_roomy.Given as goal
 
 abbrev pub invariant-loop-r : goal.invariant-loop-r

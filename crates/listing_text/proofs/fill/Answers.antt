@@ -5,18 +5,18 @@ use Rattle.opening.proofs.Laws.{opened-laid, opened_view}
 use Rattle.marks.proofs.Laws.{marked-view}
 use Rattle.listing_text.proofs.fill.Goals as goal
 
-)
-
 pub mark_methods-requires : goal.mark_methods-requires
 mark_methods-requires c = opened-laid c.open.ensures c.in-Ready.is
 
 pub fill_held-s-requires : goal.fill_held-s-requires
-fill_held-s-requires c = let m = c.mark_methods.ensures in
+fill_held-s-requires c =
+    let m = c.mark_methods.ensures in
     let opened = c.open.ensures in
     record { laid = m.laid; by_index = λ s b. marked-view m s b ∙ opened_view opened c.in-Ready.is s b }
 
 pub returns-in-Refused : goal.returns-in-Refused
-returns-in-Refused c = let opened = c.open.ensures in (
+returns-in-Refused c =
+    let opened = c.open.ensures in (
       c.end_piece.ensures _ _ (c.fill_refused-s.ensures _ _ _ _ (sym opened.answer ∙ c.in-Refused.is)),
       c.clear_words.ensures,
     )
@@ -25,3 +25,4 @@ pub returns-in-Ready : goal.returns-in-Ready
 returns-in-Ready c = (
   c.end_piece-in-Ready.ensures _ _ c.fill_held-s.ensures,
   c.clear_words-in-Ready.ensures ∙ ap (λ (n : ℕ). replicate n 0) c.work-in-Ready-1.given,
+)

@@ -5,7 +5,8 @@ use Rattle.listing_steps.proofs.Filling.{input-malformed, input-streams}
 use Rattle.listing_text.proofs.fill_input.Goals as goal
 
 pub returns-in-Streams : goal.returns-in-Streams
-returns-in-Streams c = let is = sym c.in-Streams.is ∙ c.open_bundle.ensures.1 in
+returns-in-Streams c =
+    let is = sym c.in-Streams.is ∙ c.open_bundle.ensures.1 in
     let in-input = streams-within _ is in
     let filled = c.fill.ensures in (
       input-streams _ _ _ is
@@ -17,5 +18,6 @@ returns-in-Streams c = let is = sym c.in-Streams.is ∙ c.open_bundle.ensures.1 
     )
 
 pub returns-in-Malformed : goal.returns-in-Malformed
-returns-in-Malformed c = let is = sym c.in-Malformed.is ∙ c.open_bundle.ensures.1 in
+returns-in-Malformed c =
+    let is = sym c.in-Malformed.is ∙ c.open_bundle.ensures.1 in
     (c.end_piece.ensures _ _ (input-malformed _ _ _ is c.push_refused-s.ensures), c.clear_words.ensures)

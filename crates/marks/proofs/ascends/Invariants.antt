@@ -1,7 +1,6 @@
 use Prim.Native.Nat.{◌-◌, ◌≤◌}
-use native.Mathlib.Omega.{arith}
 use Rattle.rows.specs.Layout.{cell}
-use Rattle.marks.proofs.Laws.{Rising, rising_none, rising-more, falls, tells-yes, tells-no}
+use Rattle.marks.proofs.Laws.{Rising}
 use Rattle.marks.proofs.ascends.Given as goal
 
 abbrev pub invariant-loop-i : goal.invariant-loop-i

@@ -11,7 +11,8 @@ pub class_row-requires : goal.class_row-requires
 class_row-requires c = (rows-narrow c.requires columns.type_name (omega arith), c.requires.size)
 
 pub method_range-range-requires : goal.method_range-range-requires
-method_range-range-requires c = let laid = c.requires in
+method_range-range-requires c =
+    let laid = c.requires in
     let at = class-found c.class_row.ensures c.in-Row.is in
     record { laid = laid; lt_row = (omega (arith, at.0), omega (arith, at.0, at.1, same_rows laid columns.type_name columns.method_list (omega arith) (omega arith) refl)) }
 

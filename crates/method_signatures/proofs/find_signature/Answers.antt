@@ -11,7 +11,8 @@ pub key_of-requires : goal.key_of-requires
 key_of-requires c = method-narrow c.requires.laid c.args.m c.requires.m_bound
 
 pub returns-then-count-p : goal.returns-then-count-p
-returns-then-count-p c = let k = made c.read_signature.ensures c.in-Read.is in
+returns-then-count-p c =
+    let k = made c.read_signature.ensures c.in-Read.is in
     let narrow = method-narrow c.requires.laid c.args.m c.requires.m_bound in
     let its = c.key_of.ensures in
     (knows-past _ _ _ _ k narrow its _ c.if-count-p.true c.wide-read.ensures.0 c.wide.ensures.0, record { narrow = narrow; method = its }, c.wide-read.ensures.0)
@@ -33,7 +34,8 @@ unread_signature-requires c = method-narrow c.requires.laid c.args.m c.requires.
 
 pub returns-else-count-p : goal.returns-else-count-p
 unfolding env_in
-returns-else-count-p c = let k = made c.read_signature.ensures c.in-Read.is in
+returns-else-count-p c =
+    let k = made c.read_signature.ensures c.in-Read.is in
     let is = (cut-is _ _ _ _ k.inside c.cut-sig.ensures).bytes in
     let narrow = method-narrow c.requires.laid c.args.m c.requires.m_bound in
     let its = c.key_of-in-Read.ensures in

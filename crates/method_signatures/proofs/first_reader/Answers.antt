@@ -14,7 +14,8 @@ pub overflow_add-m : goal.overflow_add-m
 overflow_add-m c = record { fits = omega (arith, c.requires.m_bound, rows-narrow c.requires.laid columns.method_signature (omega arith)) }
 
 pub returns-then-column-m : goal.returns-then-column-m
-returns-then-column-m c = let a = c.args in
+returns-then-column-m c =
+    let a = c.args in
     let laid = c.requires.laid in
     let up = marked-ascends laid columns.method_list (omega arith) c.is_marked.ensures c.if-is_marked.true in
     let here = c.place_of-place.ensures in

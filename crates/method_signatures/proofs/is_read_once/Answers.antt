@@ -1,4 +1,3 @@
-
 use Rattle.method_signatures.proofs.is_read_once.Goals as goal
 
 pub returns-then-is_taker : goal.returns-then-is_taker

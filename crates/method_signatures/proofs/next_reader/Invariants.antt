@@ -1,13 +1,10 @@
-use mathlib.Core.Path.{◌≡◌, subst}
 use mathlib.Core.List.{List}
-use Prim.Native.Nat.{ℕ, ◌+◌, ◌-◌, ◌≤◌, ◌<◌}
-use native.Mathlib.Omega.{arith}
+use Prim.Native.Nat.{ℕ, ◌-◌, ◌≤◌, ◌<◌}
 use Rattle.classes.specs.Numbering.{place_of}
 use Rattle.rows.specs.Columns as columns
 use Rattle.rows.specs.Layout.{rows_at, view_in}
-use Rattle.rows.proofs.Laws.{rows-narrow}
 use Rattle.record.specs.Methods.{readers_from}
-use Rattle.method_signatures.proofs.Laws.{Standing, stand-from, turn-skip, turn-next, read-met, read-last, read-nobody}
+use Rattle.method_signatures.proofs.Laws.{Standing}
 use Rattle.method_signatures.proofs.next_reader.Given as goal
 
 abbrev pub invariant-loop-place : goal.invariant-loop-place

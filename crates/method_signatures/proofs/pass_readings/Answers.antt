@@ -1,17 +1,17 @@
 use mathlib.Core.Path.{refl}
 use Prim.Native.Nat.{◌-◌}
 use native.Mathlib.Omega.{arith}
-use Rattle.record.specs.Names.{classes}
 use Rattle.rows.specs.Layout.{view_in}
-use Rattle.method_signatures.proofs.Laws.{readers_in, read_next, read-by-none, others-on, reads_on, alone-reads}
-use Rattle.method_signatures.proofs.Steps.{Paying, pay-start, pay-end, pay-more, pay-spent, takes-in}
+use Rattle.method_signatures.proofs.Laws.{read_next, read-by-none, others-on, reads_on, alone-reads}
+use Rattle.method_signatures.proofs.Steps.{pay-start, pay-end, pay-more, pay-spent, takes-in}
 use Rattle.method_signatures.proofs.pass_readings.Goals as goal
 
 pub loop-reader-init : goal.loop-reader-init
 loop-reader-init c = pay-start _ _ _ _
 
 pub returns-then-alone : goal.returns-then-alone
-returns-then-alone c = let l = c.loop-reader in
+returns-then-alone c =
+    let l = c.loop-reader in
     let a = c.args in
     let v = view_in a.tables.now a.layout.now a.strings.now a.blob.now in
     let next = c.next_in_mode.ensures a.strings.now a.blob.now in
@@ -21,7 +21,8 @@ returns-then-alone c = let l = c.loop-reader in
     (pay-end v a.m (pay-more v a.m l.invariant is c.pass_by.ensures c.in-Left.is alone) refl)
 
 pub loop-reader-smaller : goal.loop-reader-smaller
-loop-reader-smaller c = let l = c.loop-reader in
+loop-reader-smaller c =
+    let l = c.loop-reader in
     let a = c.args in
     let v = view_in a.tables.now a.layout.now a.strings.now a.blob.now in
     let next = c.next_in_mode.ensures a.strings.now a.blob.now in
@@ -29,7 +30,8 @@ loop-reader-smaller c = let l = c.loop-reader in
     omega (arith, on.0, on.1)
 
 pub loop-reader-preserved : goal.loop-reader-preserved
-loop-reader-preserved c = let l = c.loop-reader in
+loop-reader-preserved c =
+    let l = c.loop-reader in
     let a = c.args in
     let v = view_in a.tables.now a.layout.now a.strings.now a.blob.now in
     let next = c.next_in_mode.ensures a.strings.now a.blob.now in
@@ -38,7 +40,8 @@ loop-reader-preserved c = let l = c.loop-reader in
     pay-more v a.m l.invariant is c.pass_by.ensures c.in-Left.is on
 
 pub returns-in-Spent : goal.returns-in-Spent
-returns-in-Spent c = let l = c.loop-reader in
+returns-in-Spent c =
+    let l = c.loop-reader in
     let a = c.args in
     let v = view_in a.tables.now a.layout.now a.strings.now a.blob.now in
     let next = c.next_in_mode.ensures a.strings.now a.blob.now in
@@ -47,7 +50,8 @@ returns-in-Spent c = let l = c.loop-reader in
     (pay-spent v a.m l.invariant is c.pass_by.ensures c.in-Spent.is)
 
 pub returns-in-Nobody : goal.returns-in-Nobody
-returns-in-Nobody c = let l = c.loop-reader in
+returns-in-Nobody c =
+    let l = c.loop-reader in
     let a = c.args in
     let v = view_in a.tables.now a.layout.now a.strings.now a.blob.now in
     let is = read-by-none v a.m (c.next_in_mode.ensures a.strings.now a.blob.now) c.in-Nobody.is in

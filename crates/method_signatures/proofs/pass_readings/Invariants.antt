@@ -1,10 +1,8 @@
-use mathlib.Core.Path.{refl}
 use Prim.Native.Nat.{◌-◌}
-use native.Mathlib.Omega.{arith}
 use Rattle.record.specs.Names.{classes}
 use Rattle.rows.specs.Layout.{view_in}
-use Rattle.method_signatures.proofs.Laws.{readers_in, read_next, read-by-none, others-on, reads_on, alone-reads}
-use Rattle.method_signatures.proofs.Steps.{Paying, pay-start, pay-end, pay-more, pay-spent, takes-in}
+use Rattle.method_signatures.proofs.Laws.{readers_in}
+use Rattle.method_signatures.proofs.Steps.{Paying}
 use Rattle.method_signatures.proofs.pass_readings.Given as goal
 
 abbrev pub invariant-loop-reader : goal.invariant-loop-reader

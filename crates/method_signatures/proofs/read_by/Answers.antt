@@ -15,15 +15,18 @@ pub overflow_add-m-in-Number : goal.overflow_add-m-in-Number
 overflow_add-m-in-Number c = record { fits = omega (arith, c.requires.m_bound, rows-narrow c.requires.laid columns.method_signature (omega arith)) }
 
 pub returns-in-Done : goal.returns-in-Done
-returns-in-Done c = let there = inside c.requires.laid c.args.strings.now c.args.blob.now c.args.m c.args.class.0 c.requires.m_bound c.read_column-index.ensures c.get_blob.ensures c.in-Found.is in
+returns-in-Done c =
+    let there = inside c.requires.laid c.args.strings.now c.args.blob.now c.args.m c.args.class.0 c.requires.m_bound c.read_column-index.ensures c.get_blob.ensures c.in-Found.is in
     signature-there c.requires.laid _ _ _ _ c.requires.m_bound c.read_column-index.ensures c.get_blob.ensures c.in-Found.is (cut-is _ _ _ _ there c.cut-sig.ensures).bytes _ c.read_method_start.ensures c.in-Number.is c.owner_of-owner.ensures c.parse_sig_type.ensures c.in-Done.is
 
 pub returns-in-Failed : goal.returns-in-Failed
-returns-in-Failed c = let there = inside c.requires.laid c.args.strings.now c.args.blob.now c.args.m c.args.class.0 c.requires.m_bound c.read_column-index.ensures c.get_blob.ensures c.in-Found.is in
+returns-in-Failed c =
+    let there = inside c.requires.laid c.args.strings.now c.args.blob.now c.args.m c.args.class.0 c.requires.m_bound c.read_column-index.ensures c.get_blob.ensures c.in-Found.is in
     no-type c.requires.laid _ _ _ _ c.requires.m_bound c.read_column-index.ensures c.get_blob.ensures c.in-Found.is (cut-is _ _ _ _ there c.cut-sig.ensures).bytes _ c.read_method_start.ensures c.in-Number.is c.owner_of-owner.ensures c.parse_sig_type.ensures c.in-Failed.is
 
 pub returns-in-NoNumber : goal.returns-in-NoNumber
-returns-in-NoNumber c = let there = inside c.requires.laid c.args.strings.now c.args.blob.now c.args.m c.args.class.0 c.requires.m_bound c.read_column-index.ensures c.get_blob.ensures c.in-Found.is in
+returns-in-NoNumber c =
+    let there = inside c.requires.laid c.args.strings.now c.args.blob.now c.args.m c.args.class.0 c.requires.m_bound c.read_column-index.ensures c.get_blob.ensures c.in-Found.is in
     no_start c.requires.laid _ _ _ _ c.requires.m_bound c.read_column-index.ensures c.get_blob.ensures c.in-Found.is (cut-is _ _ _ _ there c.cut-sig.ensures).bytes _ c.read_method_start.ensures _ _ c.in-NoNumber.is
 
 pub returns-in-Absent : goal.returns-in-Absent

@@ -1,19 +1,18 @@
-use mathlib.Core.Path.{◌≡◌, refl, ap, ◌∙◌}
+use mathlib.Core.Path.{refl, ap, ◌∙◌}
 use Prim.Native.Nat.{◌-◌}
 use native.Mathlib.Omega.{arith}
-use Rattle.buffers.specs.Writes.{Kept}
 use Rattle.buffers.proofs.Writing.{kept_same}
-use Rattle.record.specs.Names.{classes}
 use Rattle.rows.specs.Layout.{view_in}
 use Rattle.method_signatures.specs.Signatures.{missing}
-use Rattle.method_signatures.proofs.Laws.{readers_in, read_next, read-by-none, others-on, reads_on, alone-reads, standing, nobody-stands, reader-stands, reader-fails, reading-in, reading-behind, kept-twice, reading-missed, reading-stands}
+use Rattle.method_signatures.proofs.Laws.{read_next, read-by-none, others-on, reads_on, alone-reads, standing, nobody-stands, reader-stands, reader-fails, reading-in, reading-behind, kept-twice, reading-missed, reading-stands}
 use Rattle.method_signatures.proofs.read_signature.Goals as goal
 
 pub loop-reader-init : goal.loop-reader-init
 loop-reader-init c = (kept_same _ _, refl)
 
 pub returns-in-Read : goal.returns-in-Read
-returns-in-Read c = let l = c.loop-reader in
+returns-in-Read c =
+    let l = c.loop-reader in
     let a = c.args in
     let v = view_in a.tables.now a.layout.now a.strings.now a.blob.now in
     let next = c.next_in_mode.ensures a.strings.now a.blob.now in
@@ -22,7 +21,8 @@ returns-in-Read c = let l = c.loop-reader in
     (reading-behind l.invariant.0 (reading-stands c.read_by.ensures (λ s e. l.invariant.1 ∙ reader-stands v a.m is s e) c.in-Read.is))
 
 pub returns-then-alone : goal.returns-then-alone
-returns-then-alone c = let l = c.loop-reader in
+returns-then-alone c =
+    let l = c.loop-reader in
     let a = c.args in
     let v = view_in a.tables.now a.layout.now a.strings.now a.blob.now in
     let next = c.next_in_mode.ensures a.strings.now a.blob.now in
@@ -33,7 +33,8 @@ returns-then-alone c = let l = c.loop-reader in
     (missing (l.invariant.1 ∙ reader-fails v a.m is gone.0 ∙ nobody-stands v a.m alone) (kept-twice l.invariant.0 gone.1))
 
 pub loop-reader-smaller : goal.loop-reader-smaller
-loop-reader-smaller c = let l = c.loop-reader in
+loop-reader-smaller c =
+    let l = c.loop-reader in
     let a = c.args in
     let v = view_in a.tables.now a.layout.now a.strings.now a.blob.now in
     let next = c.next_in_mode.ensures a.strings.now a.blob.now in
@@ -41,7 +42,8 @@ loop-reader-smaller c = let l = c.loop-reader in
     omega (arith, on.0, on.1)
 
 pub loop-reader-preserved : goal.loop-reader-preserved
-loop-reader-preserved c = let l = c.loop-reader in
+loop-reader-preserved c =
+    let l = c.loop-reader in
     let a = c.args in
     let v = view_in a.tables.now a.layout.now a.strings.now a.blob.now in
     let next = c.next_in_mode.ensures a.strings.now a.blob.now in
@@ -51,7 +53,8 @@ loop-reader-preserved c = let l = c.loop-reader in
     (kept-twice l.invariant.0 gone.1, l.invariant.1 ∙ reader-fails v a.m is gone.0 ∙ ap (standing v a.m) on)
 
 pub returns-in-Nobody : goal.returns-in-Nobody
-returns-in-Nobody c = let l = c.loop-reader in
+returns-in-Nobody c =
+    let l = c.loop-reader in
     let a = c.args in
     let v = view_in a.tables.now a.layout.now a.strings.now a.blob.now in
     let is = read-by-none v a.m (c.next_in_mode.ensures a.strings.now a.blob.now) c.in-Nobody.is in

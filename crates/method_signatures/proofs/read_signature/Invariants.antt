@@ -1,12 +1,9 @@
-use mathlib.Core.Path.{◌≡◌, refl, ap, ◌∙◌}
+use mathlib.Core.Path.{◌≡◌}
 use Prim.Native.Nat.{◌-◌}
-use native.Mathlib.Omega.{arith}
 use Rattle.buffers.specs.Writes.{Kept}
-use Rattle.buffers.proofs.Writing.{kept_same}
 use Rattle.record.specs.Names.{classes}
 use Rattle.rows.specs.Layout.{view_in}
-use Rattle.method_signatures.specs.Signatures.{missing}
-use Rattle.method_signatures.proofs.Laws.{readers_in, read_next, read-by-none, others-on, reads_on, alone-reads, standing, nobody-stands, reader-stands, reader-fails, reading-in, reading-behind, kept-twice, reading-missed, reading-stands}
+use Rattle.method_signatures.proofs.Laws.{readers_in, standing}
 use Rattle.method_signatures.proofs.read_signature.Given as goal
 
 abbrev pub invariant-loop-reader : goal.invariant-loop-reader

@@ -1,14 +1,10 @@
-use mathlib.Core.Path.{◌≡◌, refl, sym, ◌∙◌}
-use Prim.Native.Nat.{suc, ◌+◌, ◌-◌, ◌≤◌}
-use native.Mathlib.Nat.{sub-zero}
-use native.Mathlib.Omega.{arith}
+use mathlib.Core.Path.{◌≡◌}
+use Prim.Native.Nat.{◌-◌, ◌≤◌}
 use lib.ListN.{length}
 use Rattle.record.specs.Names.{levels}
 use Rattle.record.specs.Types.{type}
-use Rattle.rendering.proofs.Laws.{rendered-done, rendered-failed}
 use Rattle.signatures.specs.Environment.{env_in}
 use Rattle.method_signatures.specs.Signatures.{behind}
-use Rattle.method_signatures.proofs.Laws.{behind_more, behind-none}
 use Rattle.method_signatures.proofs.skip_types.Given as goal
 
 abbrev pub invariant-loop-i : goal.invariant-loop-i

@@ -1,9 +1,7 @@
 use mathlib.Core.Path.{sym, subst}
-use native.Mathlib.Omega.{arith}
 use lib.Dec.{T}
 use borrow.Author.Tests.{not-false}
 use Rattle.numbers.proofs.Parts.{cut-is}
-use Rattle.rows.specs.Columns as columns
 use Rattle.method_signatures.proofs.Laws.{inside}
 use Rattle.method_signatures.proofs.Steps.{surely-fits, blobless-fits}
 use Rattle.method_signatures.proofs.surely_fits.Goals as goal

@@ -5,17 +5,20 @@ use Rattle.method_signatures.proofs.Known.{part-inside, told-past, told-type, to
 use Rattle.method_signatures.proofs.tell_next_type.Goals as goal
 
 pub returns-then-known : goal.returns-then-known
-returns-then-known c = let k = c.requires.m_bound.1 in
+returns-then-known c =
+    let k = c.requires.knows_signature in
     (told-past _ _ _ _ _ _ k.0 k.1 k.2 _ _ c.if-known.true, k.0)
 
 pub returns-in-Done : goal.returns-in-Done
 unfolding env_in
-returns-in-Done c = let k = c.requires.m_bound.1 in
+returns-in-Done c =
+    let k = c.requires.knows_signature in
     let is = (cut-is _ _ _ _ (part-inside _ _ _ _ _ _ k.0 k.1 k.2) c.cut-sig.ensures).bytes in
     told-type _ _ _ _ _ _ k.0 k.1 k.2 (omega (arith, c.if-known.false)) is c.parse_sig_type.ensures c.in-Done.is c.read_more.ensures
 
 pub returns-in-Failed : goal.returns-in-Failed
 unfolding env_in
-returns-in-Failed c = let k = c.requires.m_bound.1 in
+returns-in-Failed c =
+    let k = c.requires.knows_signature in
     let is = (cut-is _ _ _ _ (part-inside _ _ _ _ _ _ k.0 k.1 k.2) c.cut-sig.ensures).bytes in
     told-no-type _ _ _ _ _ _ k.0 k.1 k.2 (omega (arith, c.if-known.false)) is c.parse_sig_type.ensures c.in-Failed.is c.read_more-in-Failed.ensures

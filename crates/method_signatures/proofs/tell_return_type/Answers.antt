@@ -10,7 +10,8 @@ pub unread_signature-signature-requires : goal.unread_signature-signature-requir
 unread_signature-signature-requires c = method-narrow c.requires.laid c.args.m c.requires.m_bound
 
 pub returns-in-Read : goal.returns-in-Read
-returns-in-Read c = let k = made c.read_signature.ensures c.in-Read.is in
+returns-in-Read c =
+    let k = made c.read_signature.ensures c.in-Read.is in
     let narrow = method-narrow c.requires.laid c.args.m c.requires.m_bound in
     (told-return k, knows-first _ _ _ _ k narrow c.key_of.ensures c.wide.ensures.0)
 

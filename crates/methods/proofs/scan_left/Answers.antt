@@ -1,10 +1,7 @@
 use mathlib.Core.Path.{◌≡◌, ap, ◌∙◌}
-use mathlib.Core.List.{List}
-use Prim.Native.Nat.{ℕ, ◌-◌, ◌≤◌}
+use Prim.Native.Nat.{◌-◌}
 use native.Mathlib.Omega.{arith}
 use Rattle.record.specs.Methods.{left_after}
-use Rattle.rows.specs.Columns as columns
-use Rattle.rows.specs.Layout.{rows_at, view_in}
 use Rattle.methods.proofs.Laws.{all_left, class-takes}
 use Rattle.methods.proofs.scan_left.Goals as goal
 
@@ -12,7 +9,8 @@ pub loop-r-init : goal.loop-r-init
 loop-r-init c = (omega arith, omega arith, λ strings blob. all_left c.requires.laid strings blob (omega arith) c.count_rows-r.ensures c.count_rows-left.ensures)
 
 pub loop-r-preserved : goal.loop-r-preserved
-loop-r-preserved c = let l = c.loop-r in (
+loop-r-preserved c =
+    let l = c.loop-r in (
       omega arith,
       omega arith,
       λ strings blob.
@@ -20,6 +18,7 @@ loop-r-preserved c = let l = c.loop-r in (
     )
 
 pub returns : goal.returns
-returns c strings blob = let l = c.loop-r in
+returns c strings blob =
+    let l = c.loop-r in
     let same : l.r - 1 ≡ c.args.row - 1 = omega arith in
     l.invariant.2 strings blob ∙ ap (left_after _) same

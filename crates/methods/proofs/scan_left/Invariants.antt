@@ -1,11 +1,9 @@
-use mathlib.Core.Path.{◌≡◌, ap, ◌∙◌}
+use mathlib.Core.Path.{◌≡◌}
 use mathlib.Core.List.{List}
 use Prim.Native.Nat.{ℕ, ◌-◌, ◌≤◌}
-use native.Mathlib.Omega.{arith}
 use Rattle.record.specs.Methods.{left_after}
 use Rattle.rows.specs.Columns as columns
 use Rattle.rows.specs.Layout.{rows_at, view_in}
-use Rattle.methods.proofs.Laws.{all_left, class-takes}
 use Rattle.methods.proofs.scan_left.Given as goal
 
 abbrev pub invariant-loop-r : goal.invariant-loop-r

@@ -10,11 +10,13 @@ pub hold_nests-requires : goal.hold_nests-requires
 hold_nests-requires c = record { laid = opened-laid c.open.ensures c.in-Ready.is; size_in_bounds = search rules }
 
 pub returns-in-Refused : goal.returns-in-Refused
-returns-in-Refused c = let opened = c.open.ensures in
+returns-in-Refused c =
+    let opened = c.open.ensures in
     of-refused c.args.options c.args.tables.now c.args.strings.now c.args.blob.now _ (sym opened.answer ∙ c.in-Refused.is) c.refuse.ensures
 
 pub returns-in-Ready : goal.returns-in-Ready
-returns-in-Ready c = let opened = c.open.ensures in
+returns-in-Ready c =
+    let opened = c.open.ensures in
     let ready = c.in-Ready.is in
     let held = c.hold_nests.ensures in
     let same = ap (λ (o : Options). view o c.args.tables.now c.args.strings.now c.args.blob.now) (held.options ∙ opened.options ready) in

@@ -11,7 +11,8 @@ returns-then-section-end c = λ blob.
     slot-over _ _ _ (row-known c.args.class c.row_of-row.ensures c.requires.class_bound) said c.if-section-end.true
 
 pub overflow_sub-end : goal.overflow_sub-end
-overflow_sub-end c = let said = rw (ap place_says c.in-Next.is) at (c.push_class_name.ensures []) in
+overflow_sub-end c =
+    let said = rw (ap place_says c.in-Next.is) at (c.push_class_name.ensures []) in
     let h = name-ends _ _ _ (row-known c.args.class c.row_of-row.ensures c.requires.class_bound) said c.if-section-end.false in
     omega arith
 

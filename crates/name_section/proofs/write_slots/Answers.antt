@@ -1,12 +1,9 @@
-use mathlib.Core.Path.{◌≡◌, refl, ◌∙◌}
-use mathlib.Core.List.{List, []}
-use Prim.Native.Nat.{ℕ, ◌-◌}
+use mathlib.Core.Path.{refl, ◌∙◌}
+use mathlib.Core.List.{[]}
+use Prim.Native.Nat.{◌-◌}
 use native.Mathlib.Omega.{arith}
-use lib.ListN.{length, length-set}
-use Rattle.record.specs.Record.{class_record}
-use Rattle.rows.specs.Layout.{view_in}
-use Rattle.name_section.specs.Section.{names_of}
-use Rattle.name_section.proofs.Filling.{Filling, fill_start, fill-turn, fill-far, fill-over, fill_done, unfit, number_small, names-counted, name_of}
+use lib.ListN.{length-set}
+use Rattle.name_section.proofs.Filling.{fill_start, fill-turn, fill-far, fill-over, fill_done, unfit, number_small, names-counted, name_of}
 use Rattle.name_section.proofs.Slots.{fit-classes}
 use Rattle.name_section.proofs.write_slots.Goals as goal
 
@@ -40,7 +37,8 @@ returns-then-section-at c = λ blob.
     unfit (wrote.keeps.long ∙ l.invariant.0) l.invariant.1 (fill-over (l.invariant.2 blob) (omega (arith, count, less)) is wrote c.if-section-at.true) c.refuse-then-section-at.ensures
 
 pub loop-c-preserved : goal.loop-c-preserved
-loop-c-preserved c = let l = c.loop-c in
+loop-c-preserved c =
+    let l = c.loop-c in
     let less = c.loop-c-test.true in
     let count = c.count_classes-classes.ensures in
     let slot = c.push_slot-at.ensures in (

@@ -1,13 +1,11 @@
-use mathlib.Core.Path.{◌≡◌, refl, ◌∙◌}
-use mathlib.Core.List.{List, []}
+use mathlib.Core.Path.{◌≡◌}
+use mathlib.Core.List.{List}
 use Prim.Native.Nat.{ℕ, ◌-◌}
-use native.Mathlib.Omega.{arith}
-use lib.ListN.{length, length-set}
+use lib.ListN.{length}
 use Rattle.record.specs.Record.{class_record}
 use Rattle.rows.specs.Layout.{view_in}
 use Rattle.name_section.specs.Section.{names_of}
-use Rattle.name_section.proofs.Filling.{Filling, fill_start, fill-turn, fill-far, fill-over, fill_done, unfit, number_small, names-counted, name_of}
-use Rattle.name_section.proofs.Slots.{fit-classes}
+use Rattle.name_section.proofs.Filling.{Filling}
 use Rattle.name_section.proofs.write_slots.Given as goal
 
 abbrev pub invariant-loop-c : goal.invariant-loop-c

@@ -1,8 +1,5 @@
-use Prim.Native.Nat.{◌≤◌}
 use native.Mathlib.Omega.{arith}
-use Rattle.rows.specs.Columns as columns
-use Rattle.rows.specs.Layout.{rows_at}
-use Rattle.names.proofs.Leaves.{Looking, look-start, look-on, look-found, look-end}
+use Rattle.names.proofs.Leaves.{look-start, look-on, look-found, look-end}
 use Rattle.names.proofs.last_around.Goals as goal
 
 pub loop-i-init : goal.loop-i-init

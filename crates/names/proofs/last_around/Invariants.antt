@@ -1,8 +1,7 @@
 use Prim.Native.Nat.{◌≤◌}
-use native.Mathlib.Omega.{arith}
 use Rattle.rows.specs.Columns as columns
 use Rattle.rows.specs.Layout.{rows_at}
-use Rattle.names.proofs.Leaves.{Looking, look-start, look-on, look-found, look-end}
+use Rattle.names.proofs.Leaves.{Looking}
 use Rattle.names.proofs.last_around.Given as goal
 
 abbrev pub invariant-loop-i : goal.invariant-loop-i

@@ -3,8 +3,9 @@ use Rattle.names.proofs.Links.{last-of-all}
 use Rattle.names.proofs.next_outer.Goals as goal
 
 pub outer_at-requires : goal.outer_at-requires
-outer_at-requires c = let k = c.requires.nested in
+outer_at-requires c =
+    let k = c.requires.nested in
     record { laid = c.requires.laid; nested = k.0; i_bound = (omega (arith, c.count_rows.ensures), k.1.1 (omega (arith, c.count_rows.ensures))) }
 
 pub returns : goal.returns
-returns c = last-of-all _ _ _ c.outer_of.result (omega (arith, c.count_rows.ensures, c.if-i-count_rows.false, c.requires.nested.1.0)) c.outer_of.ensures
+returns c = last-of-all _ _ _ c.outer_of.result (omega (arith, c.count_rows.ensures, c.if-i-count_rows.false, c.requires.i_bound.0)) c.outer_of.ensures

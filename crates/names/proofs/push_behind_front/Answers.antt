@@ -5,29 +5,35 @@ use Rattle.names.proofs.Full.{front-wrote, over-name, over-front}
 use Rattle.names.proofs.push_behind_front.Goals as goal
 
 pub put_front-requires : goal.put_front-requires
-put_front-requires c = let first = placed-from _ c.put_before.ensures c.in-From.is in
+put_front-requires c =
+    let first = placed-from _ c.put_before.ensures c.in-From.is in
     record { laid = c.requires.laid; floor_le_end = (first.low, omega (arith, first.place, first.long)) }
 
 pub move_down-requires : goal.move_down-requires
-move_down-requires c = let first = placed-from _ c.put_before.ensures c.in-From.is in
+move_down-requires c =
+    let first = placed-from _ c.put_before.ensures c.in-From.is in
     let all = behind-then first (placed-from _ c.put_front.ensures c.in-From-put_front.is) in
     (all.low, omega (arith, all.place, all.long))
 
 pub overflow_sub-result : goal.overflow_sub-result
-overflow_sub-result c = let first = placed-from _ c.put_before.ensures c.in-From.is in
+overflow_sub-result c =
+    let first = placed-from _ c.put_before.ensures c.in-From.is in
     let all = behind-then first (placed-from _ c.put_front.ensures c.in-From-put_front.is) in
     omega (arith, all.place)
 
 pub returns-in-From-put_front : goal.returns-in-From-put_front
-returns-in-From-put_front c = let first = placed-from _ c.put_before.ensures c.in-From.is in
+returns-in-From-put_front c =
+    let first = placed-from _ c.put_before.ensures c.in-From.is in
     let all = behind-then first (placed-from _ c.put_front.ensures c.in-From-put_front.is) in
     front-wrote _ _ _ _ (cut-is _ _ _ _ c.requires.len_in_bounds c.cut-text.ensures).bytes (moved-wrote all c.move_down.ensures)
 
 pub returns-in-NoRoom-put_front : goal.returns-in-NoRoom-put_front
-returns-in-NoRoom-put_front c = let first = placed-from _ c.put_before.ensures c.in-From.is in
+returns-in-NoRoom-put_front c =
+    let first = placed-from _ c.put_before.ensures c.in-From.is in
     let none = placed-none _ (placed-then first _ _ c.put_front.result c.put_front.ensures) c.in-NoRoom-put_front.is in
     over-front _ _ _ _ (cut-is _ _ _ _ c.requires.len_in_bounds c.cut-text.ensures).bytes none.0 none.1
 
 pub returns-in-NoRoom : goal.returns-in-NoRoom
-returns-in-NoRoom c = let none = placed-none _ c.put_before.ensures c.in-NoRoom.is in
+returns-in-NoRoom c =
+    let none = placed-none _ c.put_before.ensures c.in-NoRoom.is in
     over-name _ _ _ _ (cut-is _ _ _ _ c.requires.len_in_bounds c.cut-text.ensures).bytes none.0 none.1

@@ -1,12 +1,8 @@
 use mathlib.Core.Path.{◌≡◌}
 use Prim.Native.Nat.{◌<◌}
-use native.Mathlib.Omega.{arith}
-use Rattle.backwards.proofs.Laws.{placed-from, placed-none}
 use Rattle.rows.specs.Columns as columns
 use Rattle.rows.specs.Layout.{rows_at, cell}
-use Rattle.names.proofs.Links.{asks-memory, by-nested, encloses}
-use Rattle.names.proofs.Leaves.{shown-at, shown-missing}
-use Rattle.names.proofs.Pass.{Passing, pass-start, pass-out, pass-less, pass-in, pass-full, pass-bare, pass-own, pass-none}
+use Rattle.names.proofs.Pass.{Passing}
 use Rattle.names.proofs.put_front.Given as goal
 
 abbrev pub invariant-loop-i : goal.invariant-loop-i

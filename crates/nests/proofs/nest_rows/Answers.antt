@@ -1,13 +1,11 @@
-use mathlib.Core.Path.{◌≡◌, refl, sym, ◌∙◌}
-use Prim.Native.Nat.{◌+◌, ◌-◌}
+use mathlib.Core.Path.{refl, sym, ◌∙◌}
+use Prim.Native.Nat.{◌-◌}
 use lib.ListN.{length}
 use lib.Seq.{length-take-le}
 use Rattle.numbers.proofs.Lists.{front_length, front-zero}
 use native.Mathlib.Omega.{arith}
 use Rattle.rows.specs.Columns as columns
-use Rattle.rows.specs.Layout.{rows_at, cell}
 use Rattle.rows.proofs.Laws.{rows-narrow, same-enclosing}
-use Rattle.nests.specs.Nests.{Nesting}
 use Rattle.nests.proofs.Laws.{nest-small, nest-start, nest-end}
 use Rattle.nests.proofs.nest_rows.Goals as goal
 
@@ -18,7 +16,8 @@ pub slice_bounds-clear_words-end-2 : goal.slice_bounds-clear_words-end-2
 slice_bounds-clear_words-end-2 c = sym (length-take-le _ c.args.memory.now (omega arith))
 
 pub loop-i-init : goal.loop-i-init
-loop-i-init c = let rows = c.count_rows-n.ensures in
+loop-i-init c =
+    let rows = c.count_rows-n.ensures in
     let memory = c.args.memory.now in
     let room = length memory - c.count_rows-n.result in
     let zeros = c.clear_words.ensures in
@@ -32,7 +31,8 @@ pub nest_row-requires : goal.nest_row-requires
 nest_row-requires c = (omega arith, omega (arith, rows-narrow c.requires columns.nested (omega arith)))
 
 pub loop-i-preserved : goal.loop-i-preserved
-loop-i-preserved c = let l = c.loop-i in (
+loop-i-preserved c =
+    let l = c.loop-i in (
       c.nest_row.ensures _ _ _ (omega arith) (omega arith) (c.wide-nested.ensures.0 ∙ c.read_column.ensures) (c.wide-enclosing.ensures.0 ∙ c.read_column-in-loop-i.ensures) l.invariant.0,
       l.invariant.1,
       l.invariant.2 ∙ sym c.memory-in-loop-i-1.given,
@@ -40,7 +40,8 @@ loop-i-preserved c = let l = c.loop-i in (
     )
 
 pub shape_of-memory : goal.shape_of-memory
-shape_of-memory c = let memory = c.args.memory.now in
+shape_of-memory c =
+    let memory = c.args.memory.now in
     c.loop-i.invariant.3 ∙ front_length memory (length memory - c.count_rows-n.result) (omega arith) c.clear_words.ensures
 
 pub returns : goal.returns

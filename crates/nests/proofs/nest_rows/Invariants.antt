@@ -1,14 +1,9 @@
-use mathlib.Core.Path.{◌≡◌, refl, sym, ◌∙◌}
+use mathlib.Core.Path.{◌≡◌}
 use Prim.Native.Nat.{◌+◌, ◌-◌}
 use lib.ListN.{length}
-use lib.Seq.{length-take-le}
-use Rattle.numbers.proofs.Lists.{front_length, front-zero}
-use native.Mathlib.Omega.{arith}
 use Rattle.rows.specs.Columns as columns
 use Rattle.rows.specs.Layout.{rows_at, cell}
-use Rattle.rows.proofs.Laws.{rows-narrow, same-enclosing}
 use Rattle.nests.specs.Nests.{Nesting}
-use Rattle.nests.proofs.Laws.{nest-small, nest-start, nest-end}
 use Rattle.nests.proofs.nest_rows.Given as goal
 
 abbrev pub invariant-loop-i : goal.invariant-loop-i

@@ -12,12 +12,14 @@ pub loop-i-smaller : goal.loop-i-smaller
 loop-i-smaller c = simp length-set (omega arith)
 
 pub loop-i-preserved : goal.loop-i-preserved
-loop-i-preserved c = let l = c.loop-i in
+loop-i-preserved c =
+    let l = c.loop-i in
     (simp length-set l.invariant.0, zeros-turn l.words l.i (omega arith) l.invariant.1)
 
 pub shape_of-words : goal.shape_of-words
 shape_of-words c = c.loop-i.invariant.0
 
 pub returns : goal.returns
-returns c = let l = c.loop-i in
+returns c =
+    let l = c.loop-i in
     zeros-done l.words _ l.invariant.0 (λ k h. l.invariant.1 k (omega (arith, l.invariant.0)))

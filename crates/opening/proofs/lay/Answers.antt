@@ -1,5 +1,5 @@
 use mathlib.Core.Path.{refl, sym, ap, ◌∙◌}
-use Prim.Native.Nat.{◌*◌, ◌-◌, ◌≤◌}
+use Prim.Native.Nat.{◌-◌}
 use native.Mathlib.Omega.{arith}
 use lib.ListN.{length, get_or, length-set}
 use Rattle.header.specs.declared.Header.{Header}
@@ -11,7 +11,7 @@ use Rattle.tables.proofs.Outcome.{same-walk}
 use Rattle.rows.specs.Columns as columns
 use Rattle.rows.specs.Layout.{layout_of}
 use Rattle.opening.proofs.Starts.{start-within}
-use Rattle.opening.proofs.Filling.{Filled, empty, turn, read_at, kind-below, first-is, low-is, high_is, step_is, width_is, kept-is}
+use Rattle.opening.proofs.Filling.{empty, turn, read_at, kind-below, first-is, low-is, high_is, step_is, width_is, kept-is}
 use Rattle.opening.proofs.Laying.{layout-at, whole}
 use Rattle.opening.proofs.lay.Goals as goal
 
@@ -28,12 +28,14 @@ pub bounds-walk-kind : goal.bounds-walk-kind
 bounds-walk-kind c = kind-below read_columns refl _ c.column_kinds-kinds.ensures _
 
 pub overflow_add-first : goal.overflow_add-first
-overflow_add-first c = let s = start-within _ _ _ _ c.requires.first_le_len.0 c.walk_tables-walk.result c.walk_tables-walk.ensures (get_or c.column_kinds-kinds.result c.loop-c.c 0) in
+overflow_add-first c =
+    let s = start-within _ _ _ _ c.requires.first_le_len.0 c.walk_tables-walk.result c.walk_tables-walk.ensures (get_or c.column_kinds-kinds.result c.loop-c.c 0) in
     let w = c.wide.ensures.1 in
     omega (arith, s, c.requires.first_le_len.1)
 
 pub overflow_cast-layout-in-loop-c : goal.overflow_cast-layout-in-loop-c
-overflow_cast-layout-in-loop-c c = let s = start-within _ _ _ _ c.requires.first_le_len.0 c.walk_tables-walk.result c.walk_tables-walk.ensures (get_or c.column_kinds-kinds.result c.loop-c.c 0) in
+overflow_cast-layout-in-loop-c c =
+    let s = start-within _ _ _ _ c.requires.first_le_len.0 c.walk_tables-walk.result c.walk_tables-walk.ensures (get_or c.column_kinds-kinds.result c.loop-c.c 0) in
     let w = c.wide.ensures.1 in
     omega (arith, s, c.requires.first_le_len.1)
 
@@ -69,7 +71,8 @@ bounds-layout-at-in-loop-c-4 c = simp length-set (omega (arith, c.loop-c-test.tr
 
 pub loop-c-preserved : goal.loop-c-preserved
 unfolding walk_by
-loop-c-preserved c = let here = c.loop-c-test.true in
+loop-c-preserved c =
+    let here = c.loop-c-test.true in
     let d₀ = read_column columns.count in
     let k = read_at (λ x. x.kind) read_columns d₀ _ c.column_kinds-kinds.ensures _ here in
     let w = c.index_sizes-sizes.ensures in

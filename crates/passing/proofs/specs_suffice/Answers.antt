@@ -1,13 +1,10 @@
 use mathlib.Core.Path.{sym, subst}
-use mathlib.Core.List.{List}
-use Prim.Native.Nat.{ℕ, ◌-◌, ◌≤◌}
+use Prim.Native.Nat.{◌-◌}
 use native.Mathlib.Omega.{arith}
 use lib.Dec.{T}
 use borrow.Author.Tests.{not-false}
 use Rattle.rows.specs.Columns as columns
-use Rattle.rows.specs.Layout.{view_in}
 use Rattle.rows.proofs.Laws.{rows-narrow}
-use Rattle.passing.specs.Passing.{RowsWithin}
 use Rattle.passing.proofs.Specs.{up-to-none, up-to-next, specs-within}
 use Rattle.passing.proofs.specs_suffice.Goals as goal
 
@@ -25,11 +22,11 @@ loop-row-smaller c = omega (arith, c.loop-row-test.true)
 
 pub loop-row-preserved : goal.loop-row-preserved
 loop-row-preserved c = (
-      omega (arith, c.loop-row-test.true),
-      λ strings.
-          up-to-next c.requires strings c.args.blob.now c.args.most (c.loop-row.invariant.1 strings)
-          (λ spec is. c.spec_suffices.ensures strings spec (not-false _ c.if-not-spec_suffices.false) is),
-    )
+  omega (arith, c.loop-row-test.true),
+  λ strings.
+      up-to-next c.requires strings c.args.blob.now c.args.most (c.loop-row.invariant.1 strings)
+      (λ spec is. c.spec_suffices.ensures strings spec (not-false _ c.if-not-spec_suffices.false) is),
+)
 
 pub returns : goal.returns
 returns c = λ strings g h e.

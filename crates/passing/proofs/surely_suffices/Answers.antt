@@ -1,7 +1,6 @@
 use mathlib.Core.Path.{sym, subst}
-use Prim.Native.Nat.{ℕ, ◌-◌, ◌<◌}
+use Prim.Native.Nat.{◌-◌}
 use native.Mathlib.Omega.{arith}
-use Rattle.passing.specs.Passing.{NamesSpec}
 use Rattle.passing.proofs.Laws.{When}
 use Rattle.passing.proofs.Bounds.{suffices, nowhere-yet}
 use Rattle.passing.proofs.surely_suffices.Goals as goal

@@ -1,9 +1,5 @@
-use mathlib.Core.Path.{sym, subst}
 use Prim.Native.Nat.{ℕ, ◌-◌, ◌<◌}
-use native.Mathlib.Omega.{arith}
 use Rattle.passing.specs.Passing.{NamesSpec}
-use Rattle.passing.proofs.Laws.{When}
-use Rattle.passing.proofs.Bounds.{suffices, nowhere-yet}
 use Rattle.passing.proofs.surely_suffices.Given as goal
 
 abbrev pub invariant-loop-i : goal.invariant-loop-i

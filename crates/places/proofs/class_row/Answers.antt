@@ -10,5 +10,6 @@ pub returns-then-count_rows-r : goal.returns-then-count_rows-r
 returns-then-count_rows-r c = no_row (omega (arith, c.count_rows.ensures, c.wide-r.ensures.0, row_is _ c.row_of-row.ensures (omega (arith, c.wide-r.ensures.0))))
 
 pub returns : goal.returns
-returns c = let is = row_is _ c.row_of-row.ensures (omega (arith, c.wide-r.ensures.0)) in
+returns c =
+    let is = row_is _ c.row_of-row.ensures (omega (arith, c.wide-r.ensures.0)) in
     at_row is (omega (arith, c.count_rows.ensures, c.wide-r.ensures.0))

@@ -1,7 +1,6 @@
 use mathlib.Core.Path.{refl}
 use native.Mathlib.Omega.{arith}
 use Rattle.rows.specs.Columns as columns
-use Rattle.rows.specs.Layout.{view_in}
 use Rattle.rows.proofs.Laws.{rows-narrow, same_rows}
 use Rattle.places.proofs.Laws.{class-found, class-missed, listed, unlisted, owned-range, method-none}
 use Rattle.places.proofs.place_method.Goals as goal
@@ -10,7 +9,8 @@ pub class_row-requires : goal.class_row-requires
 class_row-requires c = (rows-narrow c.requires columns.type_name (omega arith), c.requires.size)
 
 pub own_methods-own-requires : goal.own_methods-own-requires
-own_methods-own-requires c = let at = class-found c.class_row.ensures c.in-Row.is in
+own_methods-own-requires c =
+    let at = class-found c.class_row.ensures c.in-Row.is in
     record { laid = c.requires; lt_row = (omega (arith, at.0), omega (arith, at.0, at.1, same_rows c.requires columns.type_name columns.method_list (omega arith) (omega arith) refl)) }
 
 pub returns-in-Row : goal.returns-in-Row

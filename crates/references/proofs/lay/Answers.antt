@@ -1,5 +1,5 @@
 use mathlib.Core.Path.{refl, sym, ap, ◌∙◌}
-use Prim.Native.Nat.{◌*◌, ◌-◌, ◌≤◌}
+use Prim.Native.Nat.{◌-◌}
 use native.Mathlib.Omega.{arith}
 use lib.ListN.{length, get_or, length-set}
 use Rattle.header.specs.declared.Header.{Header}
@@ -12,7 +12,7 @@ use Rattle.tables.proofs.Outcome.{same-walk}
 use Rattle.references.specs.Columns as columns
 use Rattle.references.specs.Layout.{layout_of}
 use Rattle.opening.proofs.Starts.{start-within}
-use Rattle.opening.proofs.Filling.{Filled, empty, turn, read_at, kind-below, first-is, low-is, high_is, step_is, width_is, kept-is}
+use Rattle.opening.proofs.Filling.{empty, turn, read_at, kind-below, first-is, low-is, high_is, step_is, width_is, kept-is}
 use Rattle.references.proofs.Laying.{layout-at, entire-is, whole}
 use Rattle.references.proofs.lay.Goals as goal
 
@@ -29,12 +29,14 @@ pub bounds-walk-kind : goal.bounds-walk-kind
 bounds-walk-kind c = kind-below reference_columns refl _ c.column_kinds-kinds.ensures _
 
 pub overflow_add-first : goal.overflow_add-first
-overflow_add-first c = let s = start-within _ _ _ _ c.requires.first_le_len.0 c.walk_tables-walk.result c.walk_tables-walk.ensures (get_or c.column_kinds-kinds.result c.loop-c.c 0) in
+overflow_add-first c =
+    let s = start-within _ _ _ _ c.requires.first_le_len.0 c.walk_tables-walk.result c.walk_tables-walk.ensures (get_or c.column_kinds-kinds.result c.loop-c.c 0) in
     let w = c.wide.ensures.1 in
     omega (arith, s, c.requires.first_le_len.1)
 
 pub overflow_cast-layout-in-loop-c : goal.overflow_cast-layout-in-loop-c
-overflow_cast-layout-in-loop-c c = let s = start-within _ _ _ _ c.requires.first_le_len.0 c.walk_tables-walk.result c.walk_tables-walk.ensures (get_or c.column_kinds-kinds.result c.loop-c.c 0) in
+overflow_cast-layout-in-loop-c c =
+    let s = start-within _ _ _ _ c.requires.first_le_len.0 c.walk_tables-walk.result c.walk_tables-walk.ensures (get_or c.column_kinds-kinds.result c.loop-c.c 0) in
     let w = c.wide.ensures.1 in
     omega (arith, s, c.requires.first_le_len.1)
 
@@ -70,7 +72,8 @@ bounds-layout-at-in-loop-c-4 c = simp length-set (omega (arith, c.loop-c-test.tr
 
 pub loop-c-preserved : goal.loop-c-preserved
 unfolding walk_by
-loop-c-preserved c = let here = c.loop-c-test.true in
+loop-c-preserved c =
+    let here = c.loop-c-test.true in
     let d₀ = reference_column columns.count in
     let k = read_at (λ x. x.kind) reference_columns d₀ _ c.column_kinds-kinds.ensures _ here in
     let w = c.index_sizes-sizes.ensures in
@@ -106,13 +109,14 @@ shape_of-layout c = simp length-set (c.loop-c.invariant.1.long ∙ sym (ap lengt
 
 pub returns : goal.returns
 unfolding walk_by only_entire
-returns c = let args = c.args in
+returns c =
+    let args = c.args in
     let o = args.options in
     let h : Header = record { answer = Ready; heap = args.heap; first = args.first; counts = args.counts.now } in
     let n = args.len in
     let r = c.walk_tables-walk.result in
     let e = c.walk_tables-walk.ensures ∙ same-walk c.index_sizes-sizes.ensures _ _ _ in
-    whole o h n _ c.loop-c.invariant.1 c.loop-c.invariant.0 c.loop-c-test.false refl c.flag-2.ensures c.flag-2.ensures
+    whole o h n _ c.loop-c.invariant.1 c.loop-c.invariant.0 c.loop-c-test.false refl c.flag.ensures c.flag-2.ensures
     (entire-is o h n r e constant refl c.entire_rows.ensures)
     (entire-is o h n r e custom_attribute refl c.entire_rows-2.ensures)
     (entire-is o h n r e module_ref refl c.entire_rows-3.ensures)

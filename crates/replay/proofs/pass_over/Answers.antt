@@ -1,4 +1,3 @@
-
 use Rattle.replay.proofs.pass_over.Goals as goal
 
 pub loop-turns-init : goal.loop-turns-init

@@ -1,4 +1,3 @@
-
 use Rattle.replay.proofs.pass_over.Given as goal
 
 abbrev pub invariant-loop-turns : goal.invariant-loop-turns

@@ -34,6 +34,7 @@ returns-in-6 c = part_at 6 c.in-6.is
 
 pub returns-in_default : goal.returns-in_default
 unfolding parts
-returns-in_default c = let r = c.in_default.in_default-own.rest in
+returns-in_default c =
+    let r = c.in_default.in_default-own.rest in
     let seven = above (above (above (above (above (above (above zero-le r.0.0.0.0.0.0.1) r.0.0.0.0.0.1) r.0.0.0.0.1) r.0.0.0.1) r.0.0.1) r.0.1) r.1 in
     part_at 7 (omega (arith, c.requires))

@@ -1,5 +1,4 @@
 use Prim.Native.Nat.{◌-◌}
-use lib.ListN.{length}
 use Rattle.section_replay.proofs.holds.Goals as goal
 
 pub loop-i-init : goal.loop-i-init

@@ -1,6 +1,4 @@
-use mathlib.Core.Logic.{⊎_elim}
 use Prim.Native.Nat.{◌-◌, ◌≤◌}
-use native.Mathlib.Omega.{arith}
 use Rattle.section_replay.proofs.replay.Given as goal
 
 abbrev pub invariant-loop-case : goal.invariant-loop-case

@@ -1,8 +1,5 @@
-use Prim.Native.Nat.{◌≤◌, ◌-◌}
+use Prim.Native.Nat.{◌-◌}
 use native.Mathlib.Omega.{arith}
-use lib.ListN.{length, take}
-use Rattle.buffers.specs.Writes.{Wrote}
-use Rattle.section_text.specs.Output.{all_bytes}
 use Rattle.section_text.proofs.Output.{offsets-none, offsets-more, offsets-all, offsets-past}
 use borrow.Author.Rules.{rules}
 use Rattle.section_text.proofs.push_offsets.Goals as goal

@@ -1,9 +1,7 @@
 use Prim.Native.Nat.{◌≤◌, ◌-◌}
-use native.Mathlib.Omega.{arith}
 use lib.ListN.{length, take}
 use Rattle.buffers.specs.Writes.{Wrote}
 use Rattle.section_text.specs.Output.{all_bytes}
-use Rattle.section_text.proofs.Output.{offsets-none, offsets-more, offsets-all, offsets-past}
 use Rattle.section_text.proofs.push_offsets.Given as goal
 
 abbrev pub invariant-loop-i : goal.invariant-loop-i

@@ -5,7 +5,8 @@ use Rattle.section_text.proofs.Output.{input-malformed, input-streams}
 use Rattle.section_text.proofs.section_of_input.Goals as goal
 
 pub returns-in-Streams : goal.returns-in-Streams
-returns-in-Streams c = let is = sym c.in-Streams.is ∙ c.open_bundle.ensures.1 in
+returns-in-Streams c =
+    let is = sym c.in-Streams.is ∙ c.open_bundle.ensures.1 in
     let in-input = streams-within _ is in
     input-streams _ is (cut-is _ _ _ _ in-input.0 c.cut-tables.ensures).bytes (cut-is _ _ _ _ in-input.1 c.cut-strings.ensures).bytes
     (cut-is _ _ _ _ in-input.2 c.cut-blob.ensures).bytes c.base_options.ensures c.name_section.ensures

@@ -1,8 +1,6 @@
 use Prim.Native.Nat.{◌-◌, ◌≤◌}
-use native.Mathlib.Omega.{arith}
 use Rattle.shapes.specs.Series.{Passes}
 use Rattle.shapes.specs.declared.Pass.{Pass}
-use Rattle.shapes.proofs.Series.{is_number, no_number, pass-start, pass-turn, pass-cut, pass-done}
 use Rattle.shapes.proofs.pass_items.Given as goal
 
 abbrev pub invariant-loop-i : goal.invariant-loop-i

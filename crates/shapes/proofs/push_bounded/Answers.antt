@@ -6,13 +6,15 @@ pub returns-then-low-eq0 : goal.returns-then-low-eq0
 returns-then-low-eq0 c = bounded-zero c.args.minus _ c.if-low-eq0.true c.push_size.ensures
 
 pub returns-in-Number : goal.returns-in-Number
-returns-in-Number c = let low = c.push_signed-k.ensures in
+returns-in-Number c =
+    let low = c.push_signed-k.ensures in
     let dots = c.push-next.ensures in
     bounded_closed c.args.minus c.wide.ensures.0 (pos_of_ne-zero c.if-low-eq0.false) low dots
     c.in-Number.is c.push_upper.ensures
 
 pub returns-in-NoNumber : goal.returns-in-NoNumber
-returns-in-NoNumber c = let low = c.push_signed-k.ensures in
+returns-in-NoNumber c =
+    let low = c.push_signed-k.ensures in
     let dots = c.push-next.ensures in
     bounded-open c.args.minus c.wide.ensures.0 (pos_of_ne-zero c.if-low-eq0.false) low dots
     c.in-NoNumber.is

@@ -1,11 +1,7 @@
-use mathlib.Core.Path.{◌≡◌, refl, ◌∙◌}
-use mathlib.Core.List.{List}
-use Prim.Native.Nat.{ℕ, ◌-◌}
+use mathlib.Core.Path.{refl, ◌∙◌}
+use Prim.Native.Nat.{◌-◌}
 use native.Mathlib.Omega.{arith}
-use lib.ListN.{length}
-use Rattle.buffers.specs.Writes.{Wrote}
 use Rattle.buffers.proofs.Writing.{wrote-over}
-use Rattle.shapes.specs.Runs.{brackets}
 use Rattle.shapes.proofs.Runs.{brackets-start, brackets-turn, brackets-done}
 use Rattle.shapes.proofs.push_brackets.Goals as goal
 
@@ -19,7 +15,8 @@ pub returns-then-buf-k : goal.returns-then-buf-k
 returns-then-buf-k c = c.loop-i.invariant.1 _ _ (wrote-over _ _ _ (omega (arith, c.if-buf-k.true)))
 
 pub loop-i-preserved : goal.loop-i-preserved
-loop-i-preserved c = let l = c.loop-i in
+loop-i-preserved c =
+    let l = c.loop-i in
     let w = c.push-k.ensures in
     (w.keeps.long ∙ l.invariant.0, λ b r h. l.invariant.1 b r (brackets-turn _ c.loop-i-test.true w h))
 

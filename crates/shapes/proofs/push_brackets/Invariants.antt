@@ -1,12 +1,9 @@
-use mathlib.Core.Path.{◌≡◌, refl, ◌∙◌}
+use mathlib.Core.Path.{◌≡◌}
 use mathlib.Core.List.{List}
 use Prim.Native.Nat.{ℕ, ◌-◌}
-use native.Mathlib.Omega.{arith}
 use lib.ListN.{length}
 use Rattle.buffers.specs.Writes.{Wrote}
-use Rattle.buffers.proofs.Writing.{wrote-over}
 use Rattle.shapes.specs.Runs.{brackets}
-use Rattle.shapes.proofs.Runs.{brackets-start, brackets-turn, brackets-done}
 use Rattle.shapes.proofs.push_brackets.Given as goal
 
 abbrev pub invariant-loop-i : goal.invariant-loop-i

@@ -1,15 +1,9 @@
-use mathlib.Core.Path.{◌≡◌, refl, ◌∙◌}
-use mathlib.Core.List.{List, ◌++◌}
-use Prim.Native.Nat.{ℕ, ◌-◌}
+use mathlib.Core.Path.{refl, ◌∙◌}
+use Prim.Native.Nat.{◌-◌}
 use native.Mathlib.Omega.{arith}
-use lib.ListN.{length}
 use Rattle.numbers.specs.Compressed.{uint, sint}
-use Rattle.buffers.specs.Texts.{q}
-use Rattle.buffers.specs.Writes.{Wrote}
 use Rattle.buffers.proofs.Writing.{wrote-over}
-use Rattle.record.specs.Dims.{dims}
-use Rattle.shapes.specs.Series.{numbers, items}
-use Rattle.shapes.proofs.Dims.{ahead, dims-start, dims-turn, dims-done}
+use Rattle.shapes.proofs.Dims.{dims-start, dims-turn, dims-done}
 use Rattle.shapes.proofs.push_dims.Goals as goal
 
 pub loop-i-init : goal.loop-i-init
@@ -22,7 +16,8 @@ pub returns-then-buf-k : goal.returns-then-buf-k
 returns-then-buf-k c = c.loop-i.invariant.1 _ _ (wrote-over _ _ _ (omega (arith, c.if-buf-k.true)))
 
 pub loop-i-preserved : goal.loop-i-preserved
-loop-i-preserved c = let l = c.loop-i in
+loop-i-preserved c =
+    let l = c.loop-i in
     let comma = c.push_comma-next.ensures in
     let dim = c.push_dim-k.ensures in (
       dim.keeps.long ∙ comma.keeps.long ∙ l.invariant.0,

@@ -1,15 +1,13 @@
-use mathlib.Core.Path.{◌≡◌, refl, ◌∙◌}
+use mathlib.Core.Path.{◌≡◌}
 use mathlib.Core.List.{List, ◌++◌}
 use Prim.Native.Nat.{ℕ, ◌-◌}
-use native.Mathlib.Omega.{arith}
 use lib.ListN.{length}
 use Rattle.numbers.specs.Compressed.{uint, sint}
 use Rattle.buffers.specs.Texts.{q}
 use Rattle.buffers.specs.Writes.{Wrote}
-use Rattle.buffers.proofs.Writing.{wrote-over}
 use Rattle.record.specs.Dims.{dims}
 use Rattle.shapes.specs.Series.{numbers, items}
-use Rattle.shapes.proofs.Dims.{ahead, dims-start, dims-turn, dims-done}
+use Rattle.shapes.proofs.Dims.{ahead}
 use Rattle.shapes.proofs.push_dims.Given as goal
 
 abbrev pub invariant-loop-i : goal.invariant-loop-i

@@ -1,8 +1,6 @@
 use Prim.Native.Nat.{◌-◌, ◌≤◌}
-use native.Mathlib.Omega.{arith}
 use lib.ListN.{length}
-use Rattle.shapes.specs.Runs.{Leads, ran, broke}
-use Rattle.shapes.proofs.Runs.{run-start, plain_end, past-modifier, run-vector, run-modifier, run-torn, run-other}
+use Rattle.shapes.specs.Runs.{Leads}
 use Rattle.shapes.proofs.skip_run.Given as goal
 
 abbrev pub invariant-loop-p : goal.invariant-loop-p

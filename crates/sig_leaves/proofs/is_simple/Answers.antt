@@ -23,5 +23,6 @@ unfolding simple names look
 returns-in-28 c = is-simple _ 0x1C c.in-28.is refl
 
 pub returns-in_default : goal.returns-in_default
-returns-in_default c = let no = c.in_default.in_default-own.rest in
+returns-in_default c =
+    let no = c.in_default.in_default-own.rest in
     high-simple _ c.if-tag-lt15.false no.0.0.0.1 no.0.0.1 no.0.1 no.1

@@ -9,7 +9,8 @@ pub row_block-block-requires : goal.row_block-block-requires
 row_block-block-requires c = coded-few _ _ c.coded_setting.ensures
 
 pub walk_block-requires : goal.walk_block-requires
-walk_block-requires c = let h = c.read_header-h.ensures in
+walk_block-requires c =
+    let h = c.read_header-h.ensures in
     let few = c.if-limit-gt-TABLE_LIMIT.false in
     let byte = c.byte.ensures.0 in
     let heap = c.wide-bits.ensures.0 in
@@ -21,7 +22,8 @@ pub returns-in-Refused : goal.returns-in-Refused
 returns-in-Refused c = c.refused_extents.ensures ∙ is-refused _ _ _ _ c.read_header-h.ensures c.in-Refused.is
 
 pub returns-in-Ready : goal.returns-in-Ready
-returns-in-Ready c = let h = c.read_header-h.ensures in
+returns-in-Ready c =
+    let h = c.read_header-h.ensures in
     let few = c.if-limit-gt-TABLE_LIMIT.false in
     let byte = c.byte.ensures.0 in
     let heap = c.wide-bits.ensures.0 in

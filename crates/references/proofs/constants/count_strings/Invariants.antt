@@ -1,13 +1,10 @@
-use mathlib.Core.Path.{◌≡◌, refl}
+use mathlib.Core.Path.{◌≡◌}
 use Prim.Native.Nat.{◌-◌, ◌≤◌}
-use native.Mathlib.Omega.{arith}
 use lib.ListN.{get_or}
-use Rattle.keys.proofs.Laws.{keyed-none, scan-over, key-met, key-passed}
 use Rattle.record.specs.References.{string_type}
 use Rattle.rows.specs.Held.{keyed}
 use Rattle.references.specs.Columns as columns
 use Rattle.references.specs.Layout.{cell}
-use Rattle.references.proofs.ConstantAnswers.{constant-row}
 use Rattle.references.proofs.constants.count_strings.Given as goal
 
 abbrev pub invariant-loop-i : goal.invariant-loop-i

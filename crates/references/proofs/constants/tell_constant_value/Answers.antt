@@ -13,7 +13,8 @@ use Rattle.references.proofs.ConstantAnswers.{constant-row, found-row, constant-
 use Rattle.references.proofs.constants.tell_constant_value.Goals as goal
 
 pub read_column-index-requires : goal.read_column-index-requires
-read_column-index-requires c = let here = found-row c.requires [] [] _ _ c.find_string.ensures c.in-At.is in
+read_column-index-requires c =
+    let here = found-row c.requires [] [] _ _ c.find_string.ensures c.in-At.is in
     record { laid = c.requires; column_lt_count = (omega arith, constant-row c.requires columns.constant_value (omega arith) refl _ here) }
 
 pub returns-then-index-eq0 : goal.returns-then-index-eq0

@@ -23,7 +23,8 @@ pub tell_part-requires : goal.tell_part-requires
 tell_part-requires c = (c.not_empty.ensures c.args.blob.now (rw c.get_blob-key.ensures (blob-inside _ _))).0
 
 pub returns : goal.returns
-returns c strings = let bytes = blob-bytes _ _ (c.get_blob-key.ensures ∙ ap (blob_at _) c.read_column-index.ensures) in
+returns c strings =
+    let bytes = blob-bytes _ _ (c.get_blob-key.ensures ∙ ap (blob_at _) c.read_column-index.ensures) in
     let key = (c.not_empty.ensures c.args.blob.now (rw c.get_blob-key.ensures (blob-inside _ _))).1 in
     told_same
     (ref-key-is c.requires strings _ _ (omega (arith, c.count_entire.ensures, c.if-count_entire-row.false))

@@ -24,7 +24,8 @@ pub returns-then-value-n : goal.returns-then-value-n
 returns-then-value-n c = (omega arith, guid-not _ (λ h. omega (arith, h.room, c.if-value-n.true)))
 
 pub returns : goal.returns
-returns c = let h : Holds c.args.value.now = record {
+returns c =
+    let h : Holds c.args.value.now = record {
       first = c.if-value-ne1.false;
       second = c.if-value-ne0.false;
       some_bytes = omega (arith, c.if-n-eq0.false);

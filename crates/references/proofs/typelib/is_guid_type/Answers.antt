@@ -16,7 +16,8 @@ pub read_column-name-requires : goal.read_column-name-requires
 read_column-name-requires c = record { laid = c.requires; column_lt_count = (omega arith, tagged-row c.requires [] [] columns.ref_name (omega arith) refl _ _ c.tagged_row-in-At.ensures c.in-At-tagged_row.is) }
 
 pub returns-in-At-tagged_row : goal.returns-in-At-tagged_row
-returns-in-At-tagged_row c blob = let says = c.tagged_row-in-At.ensures ∙ ap (tagged_row _ type_ref_tag) c.read_column-class.ensures in
+returns-in-At-tagged_row c blob =
+    let says = c.tagged_row-in-At.ensures ∙ ap (tagged_row _ type_ref_tag) c.read_column-class.ensures in
     c.is_guid_attribute.ensures
     ∙ ap (λ i. is_text (q "GuidAttribute") (string c.args.strings.now i)) c.read_column-name.ensures
     ∙ ap (is_text (q "GuidAttribute"))
@@ -25,7 +26,8 @@ returns-in-At-tagged_row c blob = let says = c.tagged_row-in-At.ensures ∙ ap (
     (tagged-there c.requires _ blob columns.ref_name (omega arith) refl type_ref_tag _ says c.in-At-tagged_row.is)))
 
 pub returns-in-NoRow-tagged_row : goal.returns-in-NoRow-tagged_row
-returns-in-NoRow-tagged_row c blob = let says = c.tagged_row-in-At.ensures ∙ ap (tagged_row _ type_ref_tag) c.read_column-class.ensures in
+returns-in-NoRow-tagged_row c blob =
+    let says = c.tagged_row-in-At.ensures ∙ ap (tagged_row _ type_ref_tag) c.read_column-class.ensures in
     ap (is_text (q "GuidAttribute"))
     (sym (name-no-type c.requires _ blob _ _
     (tagged-there c.requires _ blob columns.member_class (omega arith) refl member_ref_tag _ c.tagged_row.ensures c.in-At.is)

@@ -1,8 +1,6 @@
-use mathlib.Core.Path.{◌≡◌}
-use Prim.Native.Nat.{ℕ, ◌-◌, ◌≤◌, ◌<◌}
+use Prim.Native.Nat.{◌-◌}
 use native.Mathlib.Omega.{arith}
 use borrow.Author.Count.{below_more}
-use lib.ListN.{length, get_or}
 use Rattle.references.proofs.Same.{same-is, same-long, same_not}
 use Rattle.references.proofs.typelib.is_same.Goals as goal
 
@@ -16,9 +14,11 @@ pub returns-then-a-i : goal.returns-then-a-i
 returns-then-a-i c = same_not _ _ c.loop-i.i c.if-a-i.true
 
 pub loop-i-preserved : goal.loop-i-preserved
-loop-i-preserved c = let l = c.loop-i in
+loop-i-preserved c =
+    let l = c.loop-i in
     (omega arith, l.invariant.1, below_more _ _ l.invariant.2 c.if-a-i.false)
 
 pub returns : goal.returns
-returns c = let l = c.loop-i in
+returns c =
+    let l = c.loop-i in
     same-is _ _ l.invariant.1 (λ k h. l.invariant.2 k (omega (arith, c.loop-i-test.false)))

@@ -1,9 +1,6 @@
 use mathlib.Core.Path.{◌≡◌}
 use Prim.Native.Nat.{ℕ, ◌-◌, ◌≤◌, ◌<◌}
-use native.Mathlib.Omega.{arith}
-use borrow.Author.Count.{below_more}
 use lib.ListN.{length, get_or}
-use Rattle.references.proofs.Same.{same-is, same-long, same_not}
 use Rattle.references.proofs.typelib.is_same.Given as goal
 
 abbrev pub invariant-loop-i : goal.invariant-loop-i

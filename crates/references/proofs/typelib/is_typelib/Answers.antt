@@ -18,7 +18,8 @@ pub read_column-index-requires : goal.read_column-index-requires
 read_column-index-requires c = record { laid = c.requires.laid; column_lt_count = (omega arith, attribute-row c.requires.laid columns.attribute_type (omega arith) refl _ c.requires.i_bound) }
 
 pub returns : goal.returns
-returns c blob = let v = view_in c.args.tables.now c.args.layout.now c.args.strings.now blob in
+returns c blob =
+    let v = view_in c.args.tables.now c.args.layout.now c.args.strings.now blob in
     c.is_guid_type.ensures blob
     ∙ ap (λ i. is_text (q "GuidAttribute") (attribute_name v i)) c.read_column-index.ensures
     ∙ by-type c.requires.laid _ blob _ (sym (ap (λ (x : ℕ). x % 32) c.read_column-parent.ensures) ∙ c.if-parent-ne-ASSEMBLY_TAG.false)

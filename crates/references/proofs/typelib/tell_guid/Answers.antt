@@ -11,9 +11,11 @@ use Rattle.references.proofs.Parts.{blob-there, blob-gone}
 use Rattle.references.proofs.typelib.tell_guid.Goals as goal
 
 pub returns-in-Found : goal.returns-in-Found
-returns-in-Found c = let value = blob-there _ _ (c.get_blob.ensures ∙ ap (blob_at _) c.read_column-index.ensures) c.in-Found.is c.cut-value.ensures in
+returns-in-Found c =
+    let value = blob-there _ _ (c.get_blob.ensures ∙ ap (blob_at _) c.read_column-index.ensures) c.in-Found.is c.cut-value.ensures in
     told_same (ap (λ o. name_or_5 (and_then o guid_text)) value ∙ ap name_or_5 (sym c.guid_part.ensures.1)) c.tell_part.ensures
 
 pub returns-in-Absent : goal.returns-in-Absent
-returns-in-Absent c = let none = blob-gone _ _ (c.get_blob.ensures ∙ ap (blob_at _) c.read_column-index.ensures) c.in-Absent.is in
+returns-in-Absent c =
+    let none = blob-gone _ _ (c.get_blob.ensures ∙ ap (blob_at _) c.read_column-index.ensures) c.in-Absent.is in
     telling.missing {why = Untold} (ap (λ o. name_or_5 (and_then o guid_text)) none) (kept_same _ _)

@@ -13,7 +13,8 @@ pub returns-then-count_entire-eq0 : goal.returns-then-count_entire-eq0
 returns-then-count_entire-eq0 c = telling.no_row (typelib-gone c.requires _ _ (sym c.count_entire.ensures ∙ c.if-count_entire-eq0.true)) (kept_same _ _)
 
 pub tell_guid-requires : goal.tell_guid-requires
-tell_guid-requires c = let here = typelib-row c.requires _ [] c.find_typelib.ensures c.in-At.is in
+tell_guid-requires c =
+    let here = typelib-row c.requires _ [] c.find_typelib.ensures c.in-At.is in
     record { laid = c.requires; i_bound = attribute-row c.requires columns.attribute_value (omega arith) refl _ here }
 
 pub returns-in-At : goal.returns-in-At

@@ -1,16 +1,12 @@
 use mathlib.Core.Path.{◌≡◌}
-use mathlib.Core.List.{List}
-use mathlib.Core.Logic.{⊎_elim}
-use Prim.Native.Nat.{ℕ, ◌+◌, ◌*◌, ◌-◌, ◌<◌}
+use Prim.Native.Nat.{ℕ, ◌+◌, ◌-◌, ◌<◌}
 use native.Mathlib.Omega.{arith}
-use lib.ListN.{get_or}
-use Rattle.tables.specs.Extents.{in_block}
-use Rattle.tables.proofs.WalkLoop.{Walking, begin, ended, skipped, unknown, cut, room, taken}
+use Rattle.tables.proofs.WalkLoop.{begin, ended, skipped, unknown, cut, room, taken}
 use Rattle.tables.proofs.blocks.walk_block.Goals as goal
+use Rattle.tables.proofs.blocks.walk_block.Goals.{then-n-gt0+else-kind-ge45+else-whole-n, else-n-gt0}
 
 -- A byte that was read is some, where its number is.
 is_some : {x r : ℕ} → (r ≡ x) × (r < 256) → 0 < x → 0 < r
-
 is_some e h = omega (arith, e.0)
 
 pub loop-kind-init : goal.loop-kind-init
@@ -20,23 +16,27 @@ pub whole_rows-whole-requires : goal.whole_rows-whole-requires
 whole_rows-whole-requires c = is_some c.byte-size.ensures (c.requires.by_index _ c.if-kind-ge45.false)
 
 pub overflow_mul-at : goal.overflow_mul-at
-overflow_mul-at c = let h = room _ _ _ _ _ _ _ _ _ c.loop-kind.invariant c.if-kind-ge64.false c.if-n-gt0.true c.if-kind-ge45.false _ _ c.byte-size.ensures.0 c.whole_rows-whole.ensures
+overflow_mul-at c =
+    let h = room _ _ _ _ _ _ _ _ _ c.loop-kind.invariant c.if-kind-ge64.false c.if-n-gt0.true c.if-kind-ge45.false _ _ c.byte-size.ensures.0 c.whole_rows-whole.ensures
     (is_some c.byte-size.ensures (c.requires.by_index _ c.if-kind-ge45.false)) c.if-whole-n.false in
     rw (c.wide.ensures.0, c.wide-then-n-gt0.ensures.0) (omega (arith, h, c.loop-kind.invariant.within, c.ranges.len))
 
 pub overflow_add-at : goal.overflow_add-at
-overflow_add-at c = let h = room _ _ _ _ _ _ _ _ _ c.loop-kind.invariant c.if-kind-ge64.false c.if-n-gt0.true c.if-kind-ge45.false _ _ c.byte-size.ensures.0 c.whole_rows-whole.ensures
+overflow_add-at c =
+    let h = room _ _ _ _ _ _ _ _ _ c.loop-kind.invariant c.if-kind-ge64.false c.if-n-gt0.true c.if-kind-ge45.false _ _ c.byte-size.ensures.0 c.whole_rows-whole.ensures
     (is_some c.byte-size.ensures (c.requires.by_index _ c.if-kind-ge45.false)) c.if-whole-n.false in
     rw (c.wide.ensures.0, c.wide-then-n-gt0.ensures.0) (omega (arith, h, c.loop-kind.invariant.within, c.ranges.len))
 
 pub loop-kind-preserved : goal.loop-kind-preserved
-loop-kind-preserved c = ⊎_elim
-    (λ w.
-    rw (w.8, w.9, w.10, w.11, w.6.ensures.0, w.7.ensures.0)
-    (taken _ _ _ _ _ _ _ _ _ c.loop-kind.invariant c.if-kind-ge64.false w.0.taken w.1.left _ _ w.3.ensures.0 w.4.ensures
-    (is_some w.3.ensures (c.requires.by_index _ w.1.left)) w.5.left))
-    (λ w. rw (w.1, w.2, w.3, w.4) (skipped _ _ _ _ _ _ _ _ _ c.loop-kind.invariant c.if-kind-ge64.false w.0.left))
-    c.if-n-gt0.branch
+loop-kind-preserved c = elim c.if-n-gt0.branch [
+  | then-n-gt0+else-kind-ge45+else-whole-n w ↦
+      rw (w.starts-is, w.sizes-is, w.rows-is, w.at-is, w.wide.ensures.0, w.wide-then-n-gt0.ensures.0)
+      (taken _ _ _ _ _ _ _ _ _ c.loop-kind.invariant c.if-kind-ge64.false w.if-n-gt0.true w.if-kind-ge45.false _ _ w.byte-size.ensures.0
+      w.whole_rows-whole.ensures (is_some w.byte-size.ensures (c.requires.by_index _ w.if-kind-ge45.false)) w.if-whole-n.false)
+  | else-n-gt0 w ↦
+      rw (w.starts-is, w.sizes-is, w.rows-is, w.at-is)
+      (skipped _ _ _ _ _ _ _ _ _ c.loop-kind.invariant c.if-kind-ge64.false w.if-n-gt0.false)
+]
 
 pub returns-then-kind-ge64 : goal.returns-then-kind-ge64
 returns-then-kind-ge64 c = ended _ _ _ _ _ _ _ _ _ c.loop-kind.invariant c.if-kind-ge64.true

@@ -1,11 +1,6 @@
-use mathlib.Core.Path.{◌≡◌}
-use mathlib.Core.List.{List}
-use mathlib.Core.Logic.{⊎_elim}
-use Prim.Native.Nat.{ℕ, ◌+◌, ◌*◌, ◌-◌, ◌<◌}
-use native.Mathlib.Omega.{arith}
-use lib.ListN.{get_or}
+use Prim.Native.Nat.{◌-◌}
 use Rattle.tables.specs.Extents.{in_block}
-use Rattle.tables.proofs.WalkLoop.{Walking, begin, ended, skipped, unknown, cut, room, taken}
+use Rattle.tables.proofs.WalkLoop.{Walking}
 use Rattle.tables.proofs.blocks.walk_block.Given as goal
 
 abbrev pub invariant-loop-kind : goal.invariant-loop-kind

@@ -1,7 +1,5 @@
-use native.Mathlib.Omega.{arith}
-use Rattle.heaps.proofs.Lookups.{find-within}
 use mathlib.Core.Path.{◌≡◌}
-use Prim.Native.Nat.{◌+◌, ◌-◌}
+use Prim.Native.Nat.{◌-◌}
 use lib.ListN.{length}
 use Rattle.type_vectors.proofs.pieces.expand.Given as goal
 

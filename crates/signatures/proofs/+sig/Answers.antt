@@ -1,0 +1,507 @@
+-- The cycle of the type name, the signature type and the method signature, with their loops.
+use mathlib.Core.Path.{sym, ap, ◌∙◌, refl, ◌≡◌}
+use Prim.Native.Nat.{◌+◌, ◌-◌, ◌<◌, ◌≤◌, zero-le, suc}
+use native.Mathlib.Omega.{arith}
+use Rattle.numbers.specs.Compressed.{uint_says}
+use Rattle.record.specs.Types.{type, form, look}
+use Rattle.rendering.proofs.Laws.{rendered-done, rendered-failed}
+use Rattle.signatures.specs.Environment.{env_of, env_in}
+use lib.ListN.{get_or}
+use Rattle.buffers.specs.Writes.{place_says}
+use mathlib.Core.Logic.{◌⊎◌, inl, inr, ⊎_elim}
+use Rattle.frames.specs.Stack.{stack}
+use native.Mathlib.Nat.{sub-zero, le_refl, le_trans, pos_of_ne-zero}
+use Rattle.shapes.proofs.Laws.{run-leads, run-plain, run-stops}
+use Rattle.numbers.proofs.Parts.{cut-is}
+use Rattle.buffers.proofs.Writing.{kept_same, said-missing}
+use Rattle.sig_leaves.proofs.Specs.{blob-there, blob-missing}
+use Rattle.signatures.proofs.Forms as forms
+use Rattle.frames.proofs.Turns as turns
+use Rattle.frames.proofs.Rendering as rendering
+use Rattle.signatures.proofs.+sig.Goals as goal
+
+pub parse_method_def_signature-sig_type-requires : goal.parse_method_def_signature-sig_type-requires
+parse_method_def_signature-sig_type-requires t c =
+    let a = c.args in
+    (omega (arith, c.decreases, forms.start-ahead a.sig.now a.pos (sym (ap uint_says c.in-Number.is) ∙ c.read_method_start.ensures)), c.requires)
+
+pub parse_method_def_signature-sig_parameters-requires : goal.parse_method_def_signature-sig_parameters-requires
+parse_method_def_signature-sig_parameters-requires t c =
+    let a = c.args in
+    let e = env_of a.tables.now a.layout.now a.strings.now a.blob.now a.owners.now in
+    let T = type e a.left in
+    let s = a.sig.now in
+    let t = rendered-done c.sig_type.ensures c.in-Done.is in
+    (omega (arith, c.decreases, forms.start-ahead s a.pos (sym (ap uint_says c.in-Number.is) ∙ c.read_method_start.ensures), forms.type-ahead s _ e a.left t), (c.requires, omega (arith, c.push-inner.ensures.place, c.push-inner.ensures.keeps.long)))
+
+pub parse_method_def_signature-shape_of-buf-in-Done-sig_parameters : goal.parse_method_def_signature-shape_of-buf-in-Done-sig_parameters
+parse_method_def_signature-shape_of-buf-in-Done-sig_parameters t c = c.push.auto.buf ∙ c.sig_parameters.auto.buf ∙ c.push-inner.auto.buf ∙ c.sig_type.auto.buf ∙ c.push-open.auto.buf
+
+pub parse_method_def_signature-returns-in-Done-sig_parameters : goal.parse_method_def_signature-returns-in-Done-sig_parameters
+parse_method_def_signature-returns-in-Done-sig_parameters t c =
+    let a = c.args in
+    let e = env_of a.tables.now a.layout.now a.strings.now a.blob.now a.owners.now in
+    let T = type e a.left in
+    let s = a.sig.now in
+    let t = rendered-done c.sig_type.ensures c.in-Done.is in
+    forms.pointer-done T s a.pos (sym (ap uint_says c.in-Number.is) ∙ c.read_method_start.ensures) c.push-open.ensures t c.push-inner.ensures (rendered-done c.sig_parameters.ensures c.in-Done-sig_parameters.is) c.push.ensures
+
+pub parse_method_def_signature-returns-in-Failed-sig_parameters : goal.parse_method_def_signature-returns-in-Failed-sig_parameters
+parse_method_def_signature-returns-in-Failed-sig_parameters t c =
+    let a = c.args in
+    let e = env_of a.tables.now a.layout.now a.strings.now a.blob.now a.owners.now in
+    let T = type e a.left in
+    let s = a.sig.now in
+    let t = rendered-done c.sig_type.ensures c.in-Done.is in
+    forms.pointer-cut T s a.pos (sym (ap uint_says c.in-Number.is) ∙ c.read_method_start.ensures) c.push-open.ensures t c.push-inner.ensures (rendered-failed c.sig_parameters.ensures c.in-Failed-sig_parameters.is)
+
+pub parse_method_def_signature-returns-in-Failed : goal.parse_method_def_signature-returns-in-Failed
+parse_method_def_signature-returns-in-Failed t c =
+    let a = c.args in
+    let e = env_of a.tables.now a.layout.now a.strings.now a.blob.now a.owners.now in
+    let T = type e a.left in
+    let s = a.sig.now in
+    forms.pointer-failed T s a.pos (sym (ap uint_says c.in-Number.is) ∙ c.read_method_start.ensures) c.push-open.ensures (rendered-failed c.sig_type.ensures c.in-Failed.is)
+
+pub parse_method_def_signature-returns-in-NoNumber : goal.parse_method_def_signature-returns-in-NoNumber
+parse_method_def_signature-returns-in-NoNumber t c =
+    let a = c.args in
+    let e = env_of a.tables.now a.layout.now a.strings.now a.blob.now a.owners.now in
+    let T = type e a.left in
+    let s = a.sig.now in
+    forms.pointer-uncounted T s a.pos _ (sym (ap uint_says c.in-NoNumber.is) ∙ c.read_method_start.ensures)
+
+pub sig_around-sig_type-requires : goal.sig_around-sig_type-requires
+sig_around-sig_type-requires t c = (omega (arith, c.decreases), c.requires)
+
+pub sig_around-returns-in-Done : goal.sig_around-returns-in-Done
+sig_around-returns-in-Done t c =
+    let a = c.args in
+    let e = env_of a.tables.now a.layout.now a.strings.now a.blob.now a.owners.now in
+    let T = type e a.left in
+    let s = a.sig.now in
+    forms.around-done T s a.pos _ _ c.push_before-first.ensures (rendered-done c.sig_type.ensures c.in-Done.is) c.push_behind.ensures
+
+pub sig_around-returns-in-Failed : goal.sig_around-returns-in-Failed
+sig_around-returns-in-Failed t c =
+    let a = c.args in
+    let e = env_of a.tables.now a.layout.now a.strings.now a.blob.now a.owners.now in
+    let T = type e a.left in
+    let s = a.sig.now in
+    forms.around-failed T s a.pos _ _ c.push_before-first.ensures (rendered-failed c.sig_type.ensures c.in-Failed.is)
+
+pub sig_array-sig_type-requires : goal.sig_array-sig_type-requires
+sig_array-sig_type-requires t c = (omega (arith, c.decreases), c.requires)
+
+pub sig_array-returns-in-Done : goal.sig_array-returns-in-Done
+sig_array-returns-in-Done t c =
+    let a = c.args in
+    let e = env_of a.tables.now a.layout.now a.strings.now a.blob.now a.owners.now in
+    let T = type e a.left in
+    let s = a.sig.now in
+    forms.array-shaped T s a.pos (rendered-done c.sig_type.ensures c.in-Done.is) c.push_shape.ensures
+
+pub sig_array-returns-in-Failed : goal.sig_array-returns-in-Failed
+sig_array-returns-in-Failed t c =
+    let a = c.args in
+    let e = env_of a.tables.now a.layout.now a.strings.now a.blob.now a.owners.now in
+    let T = type e a.left in
+    let s = a.sig.now in
+    forms.array-failed T s a.pos (rendered-failed c.sig_type.ensures c.in-Failed.is)
+
+pub sig_class-type_name-requires : goal.sig_class-type_name-requires
+sig_class-type_name-requires t c = (omega (arith, c.decreases, start.well-formed.1.1.1.1.0.1), c.requires)
+
+pub sig_class-returns-in-Next : goal.sig_class-returns-in-Next
+sig_class-returns-in-Next t c =
+    let a = c.args in
+    let e = env_of a.tables.now a.layout.now a.strings.now a.blob.now a.owners.now in
+    let T = type e a.left in
+    let s = a.sig.now in
+    forms.class-done e T s a.pos _ _ (sym (ap uint_says c.in-Number.is) ∙ c.read_uint.ensures) (rw (ap place_says c.in-Next.is) at c.type_name.ensures)
+
+pub sig_class-returns-in-Missing : goal.sig_class-returns-in-Missing
+sig_class-returns-in-Missing t c =
+    let a = c.args in
+    let e = env_of a.tables.now a.layout.now a.strings.now a.blob.now a.owners.now in
+    let T = type e a.left in
+    let s = a.sig.now in
+    forms.class-missing e T s a.pos _ _ (sym (ap uint_says c.in-Number.is) ∙ c.read_uint.ensures) (rw (ap place_says c.in-Missing.is) at c.type_name.ensures)
+
+pub sig_class-returns-in-NoNumber : goal.sig_class-returns-in-NoNumber
+sig_class-returns-in-NoNumber t c =
+    let a = c.args in
+    let e = env_of a.tables.now a.layout.now a.strings.now a.blob.now a.owners.now in
+    let T = type e a.left in
+    let s = a.sig.now in
+    forms.class-unread e T s a.pos _ (sym (ap uint_says c.in-NoNumber.is) ∙ c.read_uint.ensures)
+
+pub sig_few-sig_level-requires : goal.sig_few-sig_level-requires
+sig_few-sig_level-requires t c = (omega (arith, c.decreases), (c.requires.0, (c.requires.1.0, c.requires.1.1, omega arith)))
+
+pub sig_few-shape_of-buf : goal.sig_few-shape_of-buf
+sig_few-shape_of-buf t c = c.sig_level.auto.buf
+
+pub sig_few-returns : goal.sig_few-returns
+sig_few-returns t c = c.sig_level.ensures
+
+pub sig_form-sig_array-requires : goal.sig_form-sig_array-requires
+sig_form-sig_array-requires t c =
+    let r = c.requires.1 in
+    (omega (arith, c.decreases, r.0, r.2), c.requires.0)
+
+pub sig_form-parse_method_def_signature-requires : goal.sig_form-parse_method_def_signature-requires
+sig_form-parse_method_def_signature-requires t c =
+    let r = c.requires.1 in
+    (omega (arith, c.decreases, r.0, r.2), c.requires.0)
+
+pub sig_form-sig_around-requires : goal.sig_form-sig_around-requires
+sig_form-sig_around-requires t c =
+    let r = c.requires.1 in
+    (omega (arith, c.decreases, r.0, r.2), c.requires.0)
+
+pub sig_form-sig_class-requires : goal.sig_form-sig_class-requires
+sig_form-sig_class-requires t c =
+    let r = c.requires.1 in
+    (omega (arith, c.decreases, r.0, r.2), c.requires.0)
+
+pub sig_form-returns-in-19 : goal.sig_form-returns-in-19
+sig_form-returns-in-19 t c =
+    let a = c.args in
+    let e = env_of a.tables.now a.layout.now a.strings.now a.blob.now a.owners.now in
+    let r = c.requires.1 in
+    forms.type-form e a.left a.sig.now a.pos (get_or a.sig.now a.pos 0) r.0 r.2 refl (forms.generic-form _ _ _ _ _ _ _ _ _ _ _ c.in-19.is (c.sig_var.ensures a.blob.now))
+
+pub sig_form-returns-in-20 : goal.sig_form-returns-in-20
+unfolding form look
+sig_form-returns-in-20 t c =
+    let a = c.args in
+    let e = env_of a.tables.now a.layout.now a.strings.now a.blob.now a.owners.now in
+    let r = c.requires.1 in
+    forms.type-form e a.left a.sig.now a.pos 0x14 r.0 r.2 (sym c.in-20.is) c.sig_array.ensures
+
+pub sig_form-returns-in-27 : goal.sig_form-returns-in-27
+unfolding form look
+sig_form-returns-in-27 t c =
+    let a = c.args in
+    let e = env_of a.tables.now a.layout.now a.strings.now a.blob.now a.owners.now in
+    let r = c.requires.1 in
+    forms.type-form e a.left a.sig.now a.pos 0x1B r.0 r.2 (sym c.in-27.is) c.parse_method_def_signature.ensures
+
+pub sig_form-returns-in-15 : goal.sig_form-returns-in-15
+sig_form-returns-in-15 t c =
+    let a = c.args in
+    let e = env_of a.tables.now a.layout.now a.strings.now a.blob.now a.owners.now in
+    let r = c.requires.1 in
+    forms.type-form e a.left a.sig.now a.pos (get_or a.sig.now a.pos 0) r.0 r.2 refl (forms.around-form e _ _ _ _ _ c.if-tag-lt15.false c.in-15.if-tag-lt17-own.true c.sig_around.ensures)
+
+pub sig_form-returns-in-17 : goal.sig_form-returns-in-17
+sig_form-returns-in-17 t c =
+    let a = c.args in
+    let e = env_of a.tables.now a.layout.now a.strings.now a.blob.now a.owners.now in
+    let r = c.requires.1 in
+    forms.type-form e a.left a.sig.now a.pos (get_or a.sig.now a.pos 0) r.0 r.2 refl (forms.class-form e _ _ _ _ _ c.if-tag-lt17.false c.in-17.if-tag-lt19-own.true c.sig_class.ensures)
+
+pub sig_form-returns-in_default : goal.sig_form-returns-in_default
+sig_form-returns-in_default t c =
+    let a = c.args in
+    let e = env_of a.tables.now a.layout.now a.strings.now a.blob.now a.owners.now in
+    let r = c.requires.1 in
+    let no = c.in_default-1.rest in
+    let out : ((get_or a.sig.now a.pos 0) < 0x0F) ⊎ (0x13 ≤ (get_or a.sig.now a.pos 0)) = ⊎_elim (λ w. inl w.taken) (λ w. inr w.2.left) c.in_default.branch in
+    let x = forms.alone-tag (get_or a.sig.now a.pos 0) out no.0.0.1 no.0.1 r.3 no.1 (r.1.no-vector r.2) (r.1.no-required r.2) (r.1.no-optional r.2) in
+    forms.type-form e a.left a.sig.now a.pos _ r.0 r.2 refl (forms.alone-form e _ _ _ x _ _ c.sig_simple.ensures)
+
+pub sig_inner-sig_many-requires : goal.sig_inner-sig_many-requires
+sig_inner-sig_many-requires t c = (omega (arith, c.decreases), (c.requires.0, (c.requires.1.0, c.requires.1.1 c.if-full.true)))
+
+pub sig_inner-returns-then-full : goal.sig_inner-returns-then-full
+sig_inner-returns-then-full t c = c.sig_many.ensures
+
+pub sig_inner-sig_type-requires : goal.sig_inner-sig_type-requires
+sig_inner-sig_type-requires t c = (omega (arith, c.decreases), c.requires.0)
+
+pub sig_inner-returns : goal.sig_inner-returns
+sig_inner-returns t c = c.sig_type.ensures
+
+pub sig_level-loop-p-init : goal.sig_level-loop-p-init
+sig_level-loop-p-init t c =
+    let a = c.args in
+    let e = env_of a.tables.now a.layout.now a.strings.now a.blob.now a.owners.now in
+    (omega arith, zero-le, refl, refl, λ b' r h. rendering.level-start (type e a.left) (forms.type-level e a.left c.requires.1.0) _ h)
+
+pub sig_level-descend-requires : goal.sig_level-descend-requires
+sig_level-descend-requires t c = c.loop-p.invariant.1
+
+pub sig_level-sig_inner-requires : goal.sig_level-sig_inner-requires
+sig_level-sig_inner-requires t c =
+    let came = turns.came c.descend.ensures c.in-At.is in
+    let room = c.descend.auto.frames in
+    let ahead = turns.came-on c.descend.ensures c.in-At.is c.requires.1.1 c.loop-p.invariant.0
+    (omega (arith, room, c.loop-p.invariant.2, c.requires.1.2)) in
+    (omega (arith, c.decreases, ahead, c.loop-p.invariant.0, c.loop-p-test.true), (c.requires.0, (c.requires.1.0, turns.halts-full came.halts)))
+
+pub sig_level-ascend-requires : goal.sig_level-ascend-requires
+sig_level-ascend-requires t c =
+    let text = rendered-done c.sig_inner.ensures c.in-Done.is in
+    let came = turns.came c.descend.ensures c.in-At.is in
+    (omega (arith, text.wrote.place, text.wrote.keeps.long), came.room)
+
+pub sig_level-loop-p-smaller : goal.sig_level-loop-p-smaller
+sig_level-loop-p-smaller t c =
+    let a = c.args in
+    let e = env_of a.tables.now a.layout.now a.strings.now a.blob.now a.owners.now in
+    let level = forms.type-level e a.left c.requires.1.0 in
+    let came = turns.came c.descend.ensures c.in-At.is in
+    let text = rendered-done c.sig_inner.ensures c.in-Done.is in
+    let on = forms.type-beyond e a.left a.sig.now _ text in
+    let far = rendering.more-ahead c.ascend.ensures c.in-More.is in
+    omega (arith, c.loop-p-test.true, came.ahead, on, far.0)
+
+pub sig_level-loop-p-preserved : goal.sig_level-loop-p-preserved
+sig_level-loop-p-preserved t c =
+    let a = c.args in
+    let e = env_of a.tables.now a.layout.now a.strings.now a.blob.now a.owners.now in
+    let level = forms.type-level e a.left c.requires.1.0 in
+    let came = turns.came c.descend.ensures c.in-At.is in
+    let text = rendered-done c.sig_inner.ensures c.in-Done.is in
+    let more = c.ascend.ensures in
+    let on = forms.type-beyond e a.left a.sig.now _ text in
+    let far = rendering.more-ahead more c.in-More.is in
+    let room = c.ascend.auto.frames in (
+      omega (arith, c.loop-p.invariant.0, came.few, on, far.0, far.1),
+      omega (arith, came.room, far.1, room),
+      room ∙ c.descend.auto.frames ∙ c.loop-p.invariant.2,
+      c.ascend.auto.buf ∙ c.sig_inner.auto.buf ∙ c.loop-p.invariant.3,
+      λ b' r y. c.loop-p.invariant.4 b' r (rendering.level-more (type e a.left) level came.moved text more c.in-More.is y),
+    )
+
+pub sig_level-shape_of-buf-in-Over : goal.sig_level-shape_of-buf-in-Over
+sig_level-shape_of-buf-in-Over t c = c.ascend.auto.buf ∙ c.sig_inner.auto.buf ∙ c.loop-p.invariant.3
+
+pub sig_level-shape_of-slots-in-Over : goal.sig_level-shape_of-slots-in-Over
+sig_level-shape_of-slots-in-Over t c = c.ascend.auto.frames ∙ c.descend.auto.frames ∙ c.loop-p.invariant.2
+
+pub sig_level-returns-in-Over : goal.sig_level-returns-in-Over
+sig_level-returns-in-Over t c =
+    let a = c.args in
+    let e = env_of a.tables.now a.layout.now a.strings.now a.blob.now a.owners.now in
+    let level = forms.type-level e a.left c.requires.1.0 in
+    let came = turns.came c.descend.ensures c.in-At.is in
+    let text = rendered-done c.sig_inner.ensures c.in-Done.is in
+    c.loop-p.invariant.4 _ _ (rendering.level-over (type e a.left) level came.moved text c.ascend.ensures c.in-Over.is)
+
+pub sig_level-shape_of-buf-in-Broken-ascend : goal.sig_level-shape_of-buf-in-Broken-ascend
+sig_level-shape_of-buf-in-Broken-ascend t c = c.ascend.auto.buf ∙ c.sig_inner.auto.buf ∙ c.loop-p.invariant.3
+
+pub sig_level-shape_of-slots-in-Broken-ascend : goal.sig_level-shape_of-slots-in-Broken-ascend
+sig_level-shape_of-slots-in-Broken-ascend t c = c.ascend.auto.frames ∙ c.descend.auto.frames ∙ c.loop-p.invariant.2
+
+pub sig_level-returns-in-Broken-ascend : goal.sig_level-returns-in-Broken-ascend
+sig_level-returns-in-Broken-ascend t c =
+    let a = c.args in
+    let e = env_of a.tables.now a.layout.now a.strings.now a.blob.now a.owners.now in
+    let level = forms.type-level e a.left c.requires.1.0 in
+    let came = turns.came c.descend.ensures c.in-At.is in
+    let text = rendered-done c.sig_inner.ensures c.in-Done.is in
+    c.loop-p.invariant.4 _ _ (rendering.level-broken (type e a.left) level came.moved text c.ascend.ensures c.in-Broken-ascend.is)
+
+pub sig_level-shape_of-buf-in-Failed : goal.sig_level-shape_of-buf-in-Failed
+sig_level-shape_of-buf-in-Failed t c = c.sig_inner.auto.buf ∙ c.loop-p.invariant.3
+
+pub sig_level-shape_of-slots-in-Failed : goal.sig_level-shape_of-slots-in-Failed
+sig_level-shape_of-slots-in-Failed t c = c.descend.auto.frames ∙ c.loop-p.invariant.2
+
+pub sig_level-returns-in-Failed : goal.sig_level-returns-in-Failed
+sig_level-returns-in-Failed t c =
+    let a = c.args in
+    let e = env_of a.tables.now a.layout.now a.strings.now a.blob.now a.owners.now in
+    let level = forms.type-level e a.left c.requires.1.0 in
+    let came = turns.came c.descend.ensures c.in-At.is in
+    let none = rendered-failed c.sig_inner.ensures c.in-Failed.is in
+    c.loop-p.invariant.4 _ _ (rendering.level-failed (type e a.left) level came.moved none)
+
+pub sig_level-shape_of-buf-in-Broken : goal.sig_level-shape_of-buf-in-Broken
+sig_level-shape_of-buf-in-Broken t c = c.loop-p.invariant.3
+
+pub sig_level-shape_of-slots-in-Broken : goal.sig_level-shape_of-slots-in-Broken
+sig_level-shape_of-slots-in-Broken t c = c.descend.auto.frames ∙ c.loop-p.invariant.2
+
+pub sig_level-returns-in-Broken : goal.sig_level-returns-in-Broken
+sig_level-returns-in-Broken t c =
+    let a = c.args in
+    let e = env_of a.tables.now a.layout.now a.strings.now a.blob.now a.owners.now in
+    let level = forms.type-level e a.left c.requires.1.0 in
+    c.loop-p.invariant.4 _ _ (rendering.level-torn (type e a.left) level c.descend.ensures c.in-Broken.is)
+
+pub sig_level-shape_of-buf : goal.sig_level-shape_of-buf
+sig_level-shape_of-buf t c = c.loop-p.invariant.3
+
+pub sig_level-shape_of-slots : goal.sig_level-shape_of-slots
+sig_level-shape_of-slots t c = c.loop-p.invariant.2
+
+pub sig_level-returns : goal.sig_level-returns
+sig_level-returns t c =
+    let l = c.loop-p in
+    let a = c.args in
+    let e = env_of a.tables.now a.layout.now a.strings.now a.blob.now a.owners.now in
+    let past = rendered-failed (forms.type-past e a.left a.sig.now l.p c.loop-p-test.false) refl in
+    l.invariant.4 _ _ (rendering.level-past (type e a.left) a.sig.now l.p (stack l.slots l.n) past)
+
+pub sig_many-sig_level-requires : goal.sig_many-sig_level-requires
+sig_many-sig_level-requires t c = (omega (arith, c.decreases), (c.requires.0, (c.requires.1.0, c.requires.1.1, omega arith)))
+
+pub sig_many-shape_of-buf : goal.sig_many-shape_of-buf
+sig_many-shape_of-buf t c = c.sig_level.auto.buf
+
+pub sig_many-returns : goal.sig_many-returns
+sig_many-returns t c = c.sig_level.ensures
+
+pub sig_parameters-loop-i-init : goal.sig_parameters-loop-i-init
+sig_parameters-loop-i-init t c = (omega arith, le_refl _, c.requires.1, refl, λ b' r h. rw sub-zero at h)
+
+pub sig_parameters-sig_type-requires : goal.sig_parameters-sig_type-requires
+sig_parameters-sig_type-requires t c = (omega (arith, c.decreases, c.loop-i.invariant.1), c.requires.0)
+
+pub sig_parameters-loop-i-preserved-in-Done : goal.sig_parameters-loop-i-preserved-in-Done
+sig_parameters-loop-i-preserved-in-Done t c =
+    let a = c.args in
+    let e = env_of a.tables.now a.layout.now a.strings.now a.blob.now a.owners.now in
+    let T = type e a.left in
+    let s = a.sig.now in
+    let h = c.loop-i in
+    let n = a.count in
+    let step : n - h.i ≡ suc (n - (h.i + 1)) = omega (arith, c.loop-i-test.true) in
+    let t = rendered-done c.sig_type.ensures c.in-Done.is in
+    (omega (arith, c.loop-i-test.true), le_trans h.invariant.1 (forms.type-ahead s h.p e a.left t), omega (arith, t.wrote.place, t.wrote.keeps.long), t.wrote.keeps.long ∙ c.push_sep-first.ensures.keeps.long ∙ h.invariant.3, λ b' r k. h.invariant.4 b' r (forms.parameters-more T s h.p h.i (n - (h.i + 1)) step c.push_sep-first.ensures t k))
+
+pub sig_parameters-loop-i-preserved : goal.sig_parameters-loop-i-preserved
+sig_parameters-loop-i-preserved t c =
+    let a = c.args in
+    let e = env_of a.tables.now a.layout.now a.strings.now a.blob.now a.owners.now in
+    let T = type e a.left in
+    let s = a.sig.now in
+    let h = c.loop-i in
+    let n = a.count in
+    let step : n - h.i ≡ suc (n - (h.i + 1)) = omega (arith, c.loop-i-test.true) in
+    let t = rendered-failed c.sig_type.ensures c.in-Failed.is in
+    let long = t.keeps.long ∙ c.push_sep-first.ensures.keeps.long in
+    (omega (arith, c.loop-i-test.true), le_trans h.invariant.1 (forms.failed-ahead s h.p e a.left t), omega (arith, long, h.invariant.2), long ∙ h.invariant.3, λ b' r k. h.invariant.4 b' r (forms.parameters-drop T s h.p h.i (n - (h.i + 1)) step c.push_sep-first.ensures t k))
+
+pub sig_parameters-returns : goal.sig_parameters-returns
+sig_parameters-returns t c =
+    let a = c.args in
+    let e = env_of a.tables.now a.layout.now a.strings.now a.blob.now a.owners.now in
+    let T = type e a.left in
+    let s = a.sig.now in
+    let h = c.loop-i in
+    let n = a.count in
+    let z : n - h.i ≡ 0 = omega (arith, c.loop-i-test.false) in
+    h.invariant.4 _ _ (forms.parameters-none T s h.p h.i z h.invariant.2)
+
+pub sig_plain-returns-then-sig-pos : goal.sig_plain-returns-then-sig-pos
+sig_plain-returns-then-sig-pos t c =
+    let a = c.args in
+    let e = env_of a.tables.now a.layout.now a.strings.now a.blob.now a.owners.now in
+    forms.type-past e a.left a.sig.now a.pos c.if-sig-pos.true
+
+pub sig_plain-sig_few-requires : goal.sig_plain-sig_few-requires
+sig_plain-sig_few-requires t c =
+    let is = c.if-sig-pos-eq21.true in
+    let lt = c.if-sig-pos.false in
+    (omega (arith, c.decreases), (c.requires.0, (c.requires.1.0, λ o. o.no-generic (omega (arith, lt)) is)))
+
+pub sig_plain-sig_form-requires : goal.sig_plain-sig_form-requires
+sig_plain-sig_form-requires t c = (omega (arith, c.decreases, c.if-sig-pos.false), (c.requires.0, (c.requires.1.0, c.requires.1.1, omega (arith, c.if-sig-pos.false), c.if-sig-pos-eq21.false)))
+
+pub sig_type-returns-then-sig-pos : goal.sig_type-returns-then-sig-pos
+sig_type-returns-then-sig-pos t c =
+    let a = c.args in
+    let e = env_of a.tables.now a.layout.now a.strings.now a.blob.now a.owners.now in
+    forms.type-past e a.left a.sig.now a.pos c.if-sig-pos.true
+
+pub sig_type-returns-then-left-eq0 : goal.sig_type-returns-then-left-eq0
+sig_type-returns-then-left-eq0 t c =
+    let a = c.args in
+    let e = env_of a.tables.now a.layout.now a.strings.now a.blob.now a.owners.now in
+    forms.type-deep e a.left a.sig.now a.pos c.if-left-eq0.true (omega (arith, c.if-sig-pos.false))
+
+pub sig_type-sig_plain-requires : goal.sig_type-sig_plain-requires
+sig_type-sig_plain-requires t c =
+    let leads = run-leads c.skip_run.ensures c.in-Over.is in
+    (omega (arith, c.decreases, leads.forward), (c.requires, (pos_of_ne-zero c.if-left-eq0.false, run-plain c.skip_run.ensures c.in-Over.is)))
+
+pub sig_type-returns-in-Done : goal.sig_type-returns-in-Done
+sig_type-returns-in-Done t c =
+    let a = c.args in
+    let e = env_of a.tables.now a.layout.now a.strings.now a.blob.now a.owners.now in
+    let leads = run-leads c.skip_run.ensures c.in-Over.is in
+    forms.run-done e a.left a.sig.now a.pos (pos_of_ne-zero c.if-left-eq0.false) _ _ leads (rendered-done c.sig_plain.ensures c.in-Done.is) c.push_brackets.ensures
+
+pub sig_type-returns-in-Failed : goal.sig_type-returns-in-Failed
+sig_type-returns-in-Failed t c =
+    let a = c.args in
+    let e = env_of a.tables.now a.layout.now a.strings.now a.blob.now a.owners.now in
+    let leads = run-leads c.skip_run.ensures c.in-Over.is in
+    forms.run-failed e a.left a.sig.now a.pos (pos_of_ne-zero c.if-left-eq0.false) _ _ leads (rendered-failed c.sig_plain.ensures c.in-Failed.is)
+
+pub sig_type-returns-in-Broken : goal.sig_type-returns-in-Broken
+sig_type-returns-in-Broken t c =
+    let a = c.args in
+    let e = env_of a.tables.now a.layout.now a.strings.now a.blob.now a.owners.now in
+    forms.run-broken e a.left a.sig.now a.pos (pos_of_ne-zero c.if-left-eq0.false) _ (run-stops c.skip_run.ensures c.in-Broken.is)
+
+pub type_name-sig_type-requires : goal.type_name-sig_type-requires
+type_name-sig_type-requires t c =
+    let a = c.args in
+    let there = blob-there (c.spec_blob.ensures a.strings.now) c.in-At.is in
+    (omega (arith, c.decreases, forms.cut-shorter _ _ _ _ there.1 c.cut-spec.ensures), c.requires)
+
+pub type_name-returns-in-0 : goal.type_name-returns-in-0
+unfolding env_in
+type_name-returns-in-0 t c =
+    let a = c.args in
+    let e = env_of a.tables.now a.layout.now a.strings.now a.blob.now a.owners.now in
+    let T = type e a.left in
+    rw (forms.name-def e T a.index c.in-0.is) (c.push_class_name.ensures a.blob.now)
+
+pub type_name-returns-in-1 : goal.type_name-returns-in-1
+unfolding env_in
+type_name-returns-in-1 t c =
+    let a = c.args in
+    let e = env_of a.tables.now a.layout.now a.strings.now a.blob.now a.owners.now in
+    let T = type e a.left in
+    rw (forms.name-ref e T a.index c.in-1.is) (c.push_ref_name.ensures a.blob.now)
+
+pub type_name-returns-in-Done : goal.type_name-returns-in-Done
+unfolding env_in
+type_name-returns-in-Done t c =
+    let a = c.args in
+    let e = env_of a.tables.now a.layout.now a.strings.now a.blob.now a.owners.now in
+    let T = type e a.left in
+    let there = blob-there (c.spec_blob.ensures a.strings.now) c.in-At.is in
+    rw (forms.name-spec e T a.index c.in-2.is) (forms.said-spec T there.0 (cut-is _ _ _ _ there.1 c.cut-spec.ensures).bytes (rendered-done c.sig_type.ensures c.in-Done.is))
+
+pub type_name-returns-in-Failed : goal.type_name-returns-in-Failed
+unfolding env_in
+type_name-returns-in-Failed t c =
+    let a = c.args in
+    let e = env_of a.tables.now a.layout.now a.strings.now a.blob.now a.owners.now in
+    let T = type e a.left in
+    let there = blob-there (c.spec_blob.ensures a.strings.now) c.in-At.is in
+    rw (forms.name-spec e T a.index c.in-2.is) (forms.said-no-spec T there.0 (cut-is _ _ _ _ there.1 c.cut-spec.ensures).bytes (rendered-failed c.sig_type.ensures c.in-Failed.is))
+
+pub type_name-returns-in-Missing : goal.type_name-returns-in-Missing
+unfolding env_in
+type_name-returns-in-Missing t c =
+    let a = c.args in
+    let e = env_of a.tables.now a.layout.now a.strings.now a.blob.now a.owners.now in
+    let T = type e a.left in
+    rw (forms.name-spec e T a.index c.in-2.is) (forms.said-blobless T (blob-missing (c.spec_blob.ensures a.strings.now) c.in-Missing.is) (kept_same _ _))
+
+pub type_name-returns-in_default : goal.type_name-returns-in_default
+type_name-returns-in_default t c =
+    let a = c.args in
+    let e = env_of a.tables.now a.layout.now a.strings.now a.blob.now a.owners.now in
+    let T = type e a.left in
+    said-missing (forms.name-none e T a.index c.in_default.in_default-own.rest.0.0.1 c.in_default.in_default-own.rest.0.1 c.in_default.in_default-own.rest.1) (kept_same _ _)
