@@ -61,17 +61,17 @@ module _ (v : View) where
   either_stays true x y f g = f
   either_stays false x y f g = g
 
-  after_stop : (a : Answer ℕ) → Stays (after_stop a)
+  stays-after_stop : (a : Answer ℕ) → Stays (after_stop a)
   unfolding is_over_at is_over
-  after_stop (value stop) h = refl
-  after_stop (refused w) h = refl
+  stays-after_stop (value stop) h = refl
+  stays-after_stop (refused w) h = refl
 
   pub stays_within : (c : Cursor) → is_over_at v c ≡ false → Stays (next_at v c)
   unfolding next_at is_over_at is_over
   stays_within c within = go c.place c.class.0 c.method c.i within
     where
       go : (p : Place) (k m i : ℕ) → is_over_at v (cursor p k m i) ≡ false → Stays (next_at v (cursor p k m i))
-      go Stop k m i w = after_stop (walk_answer v).stop
+      go Stop k m i w = stays-after_stop (walk_answer v).stop
       go Classes k m i w = λ _. refl
       go Class k m i w = either_stays (goes_on (class_name v k)) (cursor Flags k 0 0) done (λ _. refl) (λ _. refl)
       go Flags k m i w = λ _. refl

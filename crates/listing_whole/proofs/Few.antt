@@ -185,9 +185,9 @@ module _ (t strings heap : List ℕ) where
         keyed-few (impl_class w) (impl_interface w) (side_row base o t interface_impl) k (kept_rows base o (length t) interface_impl),
       )
 
-  rows_in : (k : ℕ) → k < 64 → rows_in v k ≤ 15000
+  rows-few : (k : ℕ) → k < 64 → rows_in v k ≤ 15000
   unfolding view_of
-  rows_in k h = rows_few t k h
+  rows-few k h = rows_few t k h
 
   few-method : (c m : ℕ) → FewInMethod (method v c m)
   unfolding method
@@ -204,7 +204,7 @@ module _ (t strings heap : List ℕ) where
 
   left-few : (c : ℕ) → left_after v c ≤ 15000
   unfolding left_after
-  left-few c = omega (arith, rows_in method_def (omega arith), left_le (rows_in v method_def) (method_lists v c (classes v - c)))
+  left-few c = omega (arith, rows-few method_def (omega arith), left_le (rows_in v method_def) (method_lists v c (classes v - c)))
 
   few-class : (c : ℕ) → FewInClass (class v c)
   unfolding class
@@ -217,7 +217,7 @@ module _ (t strings heap : List ℕ) where
 
   classes-few : classes v ≤ 15000
   unfolding classes
-  classes-few = omega (arith, rows_in type_def (omega arith))
+  classes-few = omega (arith, rows-few type_def (omega arith))
 
   pub few-in : FewIn v
   unfolding class_record

@@ -86,9 +86,9 @@ module _ {t l : List ℕ} (laid : Laid t l) where
     abbrev found : List (Option Text)
     found = of_key (by.constant_type (sizes_in (options_in l) (header_in t l))) (constant_text v) row n string_type
 
-    the_constants : n ≢ 0 → the_constants v ≡ value found
+    constants-there : n ≢ 0 → the_constants v ≡ value found
     unfolding references constants_of constant_in view_of
-    the_constants h =
+    constants-there h =
         set_is laid strings blob (λ r. or_no_row r.constants)
         ∙ ap (λ o. or_no_row (over (λ rows. present (map (constant_in v) rows)) o)) (table-there t l strings blob constant refl (constants-at laid) h)
         ∙ ap value (present-keyed (by.constant_type (sizes_in (options_in l) (header_in t l))) (constant_text v) row string_type n)
@@ -102,7 +102,7 @@ module _ {t l : List ℕ} (laid : Laid t l) where
     pub constants-are : n ≢ 0 → constant_count v ≡ value (keyed (cell t l columns.constant_type) string_type n)
     unfolding constant_count
     constants-are h =
-        ap (λ a. a ⟫ (λ x. value (length x))) (the_constants h)
+        ap (λ a. a ⟫ (λ x. value (length x))) (constants-there h)
         ∙ ap value (of_key-length (by.constant_type (sizes_in (options_in l) (header_in t l))) (constant_text v) row string_type n)
 
     pub constants-gone : n ≡ 0 → constant_count v ≡ refused_by NoSuchRow
@@ -123,7 +123,7 @@ module _ {t l : List ℕ} (laid : Laid t l) where
       the-constant : constant_value v nth ≡ name_or_5 (constant_text v (row i))
       unfolding constant_value
       the-constant =
-          ap (λ a. a ⟫ (λ x. item x nth ⟫ name_or_5)) (the_constants (λ z. omega (arith, found-row)))
+          ap (λ a. a ⟫ (λ x. item x nth ⟫ name_or_5)) (constants-there (λ z. omega (arith, found-row)))
           ∙ ap (λ o. or_no_row o ⟫ name_or_5)
           (of_key-item (by.constant_type (sizes_in (options_in l) (header_in t l))) (constant_text v) row string_type n nth i at_row.0 at_row.1 at_row.2)
 
@@ -142,6 +142,6 @@ module _ {t l : List ℕ} (laid : Laid t l) where
         go : (m : ℕ) → m ≡ n → constant_value v nth ≡ refused_by NoSuchRow
         go zero z = ap (λ a. a ⟫ (λ x. item x nth ⟫ name_or_5)) (no-constants (sym z))
         go (suc m) z =
-            ap (λ a. a ⟫ (λ x. item x nth ⟫ name_or_5)) (the_constants (λ q. omega arith))
+            ap (λ a. a ⟫ (λ x. item x nth ⟫ name_or_5)) (constants-there (λ q. omega arith))
             ∙ ap (λ o. or_no_row o ⟫ name_or_5)
             (of_key-past (by.constant_type (sizes_in (options_in l) (header_in t l))) (constant_text v) row string_type n nth (rw e at finds))

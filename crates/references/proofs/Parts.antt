@@ -5,7 +5,7 @@ use mathlib.Core.List.{List, [], ◌∷◌}
 use mathlib.Core.Option.{none, some}
 use Prim.Native.Nat.{ℕ, ◌+◌, ◌≤◌}
 use native.Mathlib.Omega.{arith}
-use denote.Ref.{Bor, MutBor}
+use denote.Bor.{Bor}
 use lib.ListN.{length, drop, length-drop}
 use lib.Seq.{length-take-le}
 use Rattle.numbers.specs.Parts.{part, CutOf}
@@ -27,7 +27,7 @@ use Rattle.record.specs.References.{not_empty}
 
 -- What a part comes to at a place.
 module _ {b : List ℕ} {at : ℕ} {p : Part} where
-  pub told_part : (s : MutBor (List ℕ)) {b' : List ℕ} {start n end : ℕ} {text : MutBor (List ℕ)} → p ≡ Found start n → Inside s.now p
+  pub told_part : (s : Bor (List ℕ)) {b' : List ℕ} {start n end : ℕ} {text : Bor (List ℕ)} → p ≡ Found start n → Inside s.now p
       → CutOf text s start n → Wrote b at text.now b' end → ToldIs (name_or_5 (bytes_of s.now p)) b at b' (Name end)
   told_part s {text = text} f i c w = telling.name text.now (rw (f, ← (cut-is _ s _ _ (rw f at i) c).bytes) refl) w
 

@@ -5,7 +5,7 @@ use mathlib.Core.List.{List}
 use Prim.Native.Nat.{ℕ, zero, suc, ◌+◌, ◌*◌, ◌≤◌, ◌<◌}
 use native.Mathlib.Omega.{arith}
 use mathlib.Core.Logic.{◌≢◌, ◌⊎◌, inl, inr, ⊎_elim}
-use denote.Ref.{MutBor}
+use denote.Bor.{Bor}
 use lib.Dec.{T, eqb, eqb→eq}
 use lib.ListN.{length, get_or}
 use Rattle.numbers.specs.Parts.{CutOf}
@@ -67,7 +67,7 @@ module _ {t l : List ℕ} (laid : Laid t l) where
 
 -- A string that was looked up, and what it came to at a place.
 module _ {b : List ℕ} {at : ℕ} {p : Part} where
-  pub told-string : (s : MutBor (List ℕ)) (i : ℕ) {b' : List ℕ} {start n end : ℕ} {text : MutBor (List ℕ)} → p ≡ string_at s.now i → p ≡ Found start n
+  pub told-string : (s : Bor (List ℕ)) (i : ℕ) {b' : List ℕ} {start n end : ℕ} {text : Bor (List ℕ)} → p ≡ string_at s.now i → p ≡ Found start n
       → CutOf text s start n → Wrote b at text.now b' end → ToldIs (name_or_why (name s.now i)) b at b' (Name end)
   told-string s i {text = text} e f c w =
       let there = sym f ∙ e in

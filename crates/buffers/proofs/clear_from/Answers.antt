@@ -1,7 +1,7 @@
 use Prim.Native.Nat.{◌-◌}
 use native.Mathlib.Omega.{arith}
-use lib.ListN.{length, length-set}
-use Rattle.buffers.proofs.Replies.{Clearing, clear-start, clear-turn, clear-done}
+use lib.ListN.{length-set}
+use Rattle.buffers.proofs.Replies.{clear-start, clear-turn, clear-done}
 use borrow.Author.Rules.{rules}
 use Rattle.buffers.proofs.clear_from.Goals as goal
 

@@ -1,7 +1,6 @@
 use Prim.Native.Nat.{◌-◌}
-use native.Mathlib.Omega.{arith}
-use lib.ListN.{length, length-set}
-use Rattle.buffers.proofs.Replies.{Clearing, clear-start, clear-turn, clear-done}
+use lib.ListN.{length}
+use Rattle.buffers.proofs.Replies.{Clearing}
 use Rattle.buffers.proofs.clear_from.Given as goal
 
 abbrev pub invariant-loop-i : goal.invariant-loop-i

@@ -1,8 +1,5 @@
-use mathlib.Core.Path.{◌≡◌}
-use Prim.Native.Nat.{◌+◌, ◌-◌, ◌≤◌, ◌<◌}
+use Prim.Native.Nat.{◌-◌}
 use native.Mathlib.Omega.{arith}
-use lib.ListN.{length, take}
-use Rattle.buffers.specs.Writes.{Wrote}
 use Rattle.buffers.proofs.Writing.{wrote_none, wrote-over, wrote-more, wrote-all}
 use borrow.Author.Rules.{rules}
 use Rattle.buffers.proofs.push.Goals as goal

@@ -1,9 +1,6 @@
-use mathlib.Core.Path.{◌≡◌}
-use Prim.Native.Nat.{◌+◌, ◌-◌, ◌≤◌, ◌<◌}
-use native.Mathlib.Omega.{arith}
+use Prim.Native.Nat.{◌+◌, ◌-◌, ◌≤◌}
 use lib.ListN.{length, take}
 use Rattle.buffers.specs.Writes.{Wrote}
-use Rattle.buffers.proofs.Writing.{wrote_none, wrote-over, wrote-more, wrote-all}
 use Rattle.buffers.proofs.push.Given as goal
 
 abbrev pub invariant-loop-i : goal.invariant-loop-i

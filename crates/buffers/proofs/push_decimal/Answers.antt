@@ -1,7 +1,7 @@
 use mathlib.Core.Path.{refl}
 use native.Mathlib.Omega.{arith}
 use lib.ListN.{length-set}
-use Rattle.buffers.proofs.Decimal.{Digits, digits-start, digits-turn, digits-done}
+use Rattle.buffers.proofs.Decimal.{digits-start, digits-turn, digits-done}
 use Rattle.buffers.proofs.push_decimal.Goals as goal
 
 pub loop-rest-init : goal.loop-rest-init

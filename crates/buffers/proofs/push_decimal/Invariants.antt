@@ -1,7 +1,4 @@
-use mathlib.Core.Path.{refl}
-use native.Mathlib.Omega.{arith}
-use lib.ListN.{length-set}
-use Rattle.buffers.proofs.Decimal.{Digits, digits-start, digits-turn, digits-done}
+use Rattle.buffers.proofs.Decimal.{Digits}
 use Rattle.buffers.proofs.push_decimal.Given as goal
 
 abbrev pub invariant-loop-rest : goal.invariant-loop-rest

@@ -1,5 +1,4 @@
-use native.Mathlib.Omega.{arith}
-use Rattle.buffers.proofs.Writing.{wrote-byte, wrote-over}
+use Rattle.buffers.proofs.Writing.{wrote-byte}
 use borrow.Author.Rules.{rules}
 use Rattle.buffers.proofs.put.Goals as goal
 

@@ -1,7 +1,6 @@
 use mathlib.Core.Path.{sym, subst}
 use native.Mathlib.Omega.{arith}
 use lib.Dec.{T}
-use borrow.Author.Tests.{not-false}
 use Rattle.rows.specs.Columns as columns
 use Rattle.rows.proofs.Laws.{rows-narrow}
 use Rattle.charges.proofs.Laws.{one-at-least, share-fits, all_fit}
@@ -27,7 +26,7 @@ returns c = λ strings e.
     let sized = c.larger-types.ensures in
     let a = c.args in
     let once = c.is_read_once.ensures a.tables.now strings a.blob.now in
-    let yes = not-false _ c.if-not-is_read_once.false in
+    let yes = c.if-not-is_read_once.false in
     let few = share-fits c.larger-types.result (omega (arith, c.if-types-gt-CEILING.false)) (omega (arith, sized.1)) in
     all_fit c.requires strings a.blob.now once yes few (omega (arith, sized.0)) (omega (arith, sized.1, c.count_rows-rows.ensures))
     (λ g h. c.specs_suffice.ensures strings g h e)

@@ -1,8 +1,6 @@
-use mathlib.Core.Path.{◌≡◌, refl}
+use mathlib.Core.Path.{refl}
 use Prim.Native.Nat.{◌-◌}
 use native.Mathlib.Omega.{arith}
-use lib.ListN.{length, drop}
-use Rattle.layouts.specs.Columns.{reaches}
 use Rattle.layouts.proofs.Reaches.{below, found, passed, none}
 use Rattle.layouts.proofs.coded_index_size.Goals as goal
 

@@ -1,9 +1,7 @@
-use mathlib.Core.Path.{◌≡◌, refl}
+use mathlib.Core.Path.{◌≡◌}
 use Prim.Native.Nat.{◌-◌}
-use native.Mathlib.Omega.{arith}
 use lib.ListN.{length, drop}
 use Rattle.layouts.specs.Columns.{reaches}
-use Rattle.layouts.proofs.Reaches.{below, found, passed, none}
 use Rattle.layouts.proofs.coded_index_size.Given as goal
 
 abbrev pub invariant-loop-i : goal.invariant-loop-i

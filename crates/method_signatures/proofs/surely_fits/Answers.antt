@@ -1,6 +1,5 @@
 use mathlib.Core.Path.{sym, subst}
 use lib.Dec.{T}
-use borrow.Author.Tests.{not-false}
 use Rattle.numbers.proofs.Parts.{cut-is}
 use Rattle.method_signatures.proofs.Laws.{inside}
 use Rattle.method_signatures.proofs.Steps.{surely-fits, blobless-fits}
@@ -14,11 +13,11 @@ returns-in-Found c = λ strings k told.
     let a = c.args in
     let laid = c.requires.laid in
     let there = inside laid strings a.blob.now a.m 0 c.requires.m_bound c.read_column-index.ensures c.get_blob.ensures c.in-Found.is in
-    surely-fits laid strings a.blob.now a.m (c.is_read_once.ensures a.tables.now strings a.blob.now) (not-false _ c.if-not-is_read_once.false) a.steps c.requires.m_bound c.read_column-index.ensures c.get_blob.ensures
+    surely-fits laid strings a.blob.now a.m (c.is_read_once.ensures a.tables.now strings a.blob.now) c.if-not-is_read_once.false a.steps c.requires.m_bound c.read_column-index.ensures c.get_blob.ensures
     c.in-Found.is (cut-is _ _ _ _ there c.cut-sig.ensures).bytes (c.surely_suffices.ensures told) k
 
 pub returns-in-Absent : goal.returns-in-Absent
 returns-in-Absent c = λ strings k told.
     let a = c.args in
     let laid = c.requires.laid in
-    blobless-fits laid strings a.blob.now a.m (c.is_read_once.ensures a.tables.now strings a.blob.now) (not-false _ c.if-not-is_read_once.false) a.steps c.requires.m_bound c.read_column-index.ensures c.get_blob.ensures c.in-Absent.is k
+    blobless-fits laid strings a.blob.now a.m (c.is_read_once.ensures a.tables.now strings a.blob.now) c.if-not-is_read_once.false a.steps c.requires.m_bound c.read_column-index.ensures c.get_blob.ensures c.in-Absent.is k

@@ -1,7 +1,6 @@
-use mathlib.Core.Path.{◌≡◌, ◌∙◌}
-use Prim.Native.Nat.{ℕ, ◌+◌, ◌-◌, ◌≤◌}
+use mathlib.Core.Path.{◌∙◌}
+use Prim.Native.Nat.{◌-◌}
 use native.Mathlib.Omega.{arith}
-use Rattle.numbers.specs.Fixed.{le_at}
 use Rattle.numbers.proofs.Fixed.{le-start, le-turn, le-done, le-room}
 use Rattle.numbers.proofs.read_le.Goals as goal
 

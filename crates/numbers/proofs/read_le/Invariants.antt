@@ -1,8 +1,6 @@
-use mathlib.Core.Path.{◌≡◌, ◌∙◌}
-use Prim.Native.Nat.{ℕ, ◌+◌, ◌-◌, ◌≤◌}
-use native.Mathlib.Omega.{arith}
+use mathlib.Core.Path.{◌≡◌}
+use Prim.Native.Nat.{◌+◌, ◌-◌, ◌≤◌}
 use Rattle.numbers.specs.Fixed.{le_at}
-use Rattle.numbers.proofs.Fixed.{le-start, le-turn, le-done, le-room}
 use Rattle.numbers.proofs.read_le.Given as goal
 
 abbrev pub invariant-loop-i : goal.invariant-loop-i

@@ -1,5 +1,4 @@
 use mathlib.Core.Path.{ap, subst}
-use native.Mathlib.Omega.{arith}
 use Rattle.numbers.specs.Compressed.{packed_says, Fit}
 use Rattle.numbers.proofs.Compressed.{sint-bits, sint-none}
 use Rattle.numbers.proofs.read_sint.Goals as goal

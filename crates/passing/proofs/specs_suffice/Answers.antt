@@ -2,7 +2,6 @@ use mathlib.Core.Path.{sym, subst}
 use Prim.Native.Nat.{◌-◌}
 use native.Mathlib.Omega.{arith}
 use lib.Dec.{T}
-use borrow.Author.Tests.{not-false}
 use Rattle.rows.specs.Columns as columns
 use Rattle.rows.proofs.Laws.{rows-narrow}
 use Rattle.passing.proofs.Specs.{up-to-none, up-to-next, specs-within}
@@ -25,7 +24,7 @@ loop-row-preserved c = (
   omega (arith, c.loop-row-test.true),
   λ strings.
       up-to-next c.requires strings c.args.blob.now c.args.most (c.loop-row.invariant.1 strings)
-      (λ spec is. c.spec_suffices.ensures strings spec (not-false _ c.if-not-spec_suffices.false) is),
+      (λ spec is. c.spec_suffices.ensures strings spec c.if-not-spec_suffices.false is),
 )
 
 pub returns : goal.returns
