@@ -12,6 +12,8 @@ mod answers;
 
 use check::same;
 use header::Options;
+use std::rt::Files;
+use std::{fs, io};
 
 // What became of a line.
 #[derive(Drop)]
@@ -27,8 +29,17 @@ struct Tally {
     differed: u64,
 }
 
-fn write(text: &[u8]) {
-    io::write_all(1, text);
+fn write(rt: &impl Print, text: &[u8]) {
+    let _ = rt.write_all(text);
+}
+
+fn write_number(rt: &impl Print, n: u64) {
+    let _ = rt.print(n);
+}
+
+// Says on standard error why a file cannot be opened.
+fn write_failed(rt: &impl Eprint, path: &str, why: io::Error) {
+    let _ = eprintln!(rt; "{path}: {why}");
 }
 
 fn are_options(line: &[u8]) -> bool {
@@ -46,7 +57,14 @@ fn options_in(answers: &[u8]) -> Options {
     c_questions::options_of(case_text::low_bits(bits))
 }
 
-fn run_line(line: &[u8], tables: &[u8], strings: &[u8], blob: &[u8], options: Options) -> Outcome {
+fn run_line(
+    rt: &impl Print,
+    line: &[u8],
+    tables: &[u8],
+    strings: &[u8],
+    blob: &[u8],
+    options: Options,
+) -> Outcome {
     if line.len() == 0 {
         return Outcome::NoAnswer;
     }
@@ -59,13 +77,20 @@ fn run_line(line: &[u8], tables: &[u8], strings: &[u8], blob: &[u8], options: Op
     if answers::agrees(line, tables, strings, blob, options) {
         return Outcome::Agreed;
     }
-    write(b"FAIL  ");
-    write(line);
-    write(b"\n");
+    write(rt, b"FAIL  ");
+    write(rt, line);
+    write(rt, b"\n");
     Outcome::Differed
 }
 
-fn run_answers(text: &[u8], tables: &[u8], strings: &[u8], blob: &[u8], options: Options) -> Tally {
+fn run_answers(
+    rt: &impl Print,
+    text: &[u8],
+    tables: &[u8],
+    strings: &[u8],
+    blob: &[u8],
+    options: Options,
+) -> Tally {
     let mut agreed: u64 = 0;
     let mut differed: u64 = 0;
     let mut at = 0;
@@ -73,7 +98,7 @@ fn run_answers(text: &[u8], tables: &[u8], strings: &[u8], blob: &[u8], options:
         let end = heaps::find_byte(text, at, b'\n');
         let line = numbers::cut(text, at, end - at);
         at = end + 1;
-        match run_line(line, tables, strings, blob, options) {
+        match run_line(rt, line, tables, strings, blob, options) {
             Outcome::Agreed => {
                 agreed += 1;
             }
@@ -86,18 +111,18 @@ fn run_answers(text: &[u8], tables: &[u8], strings: &[u8], blob: &[u8], options:
     Tally { agreed, differed }
 }
 
-fn write_tally(name: &[u8], tally: Tally) {
+fn write_tally(rt: &impl Print, name: &[u8], tally: Tally) {
     if tally.differed == 0 {
-        write(b"ok   ");
+        write(rt, b"ok   ");
     } else {
-        write(b"FAIL ");
+        write(rt, b"FAIL ");
     }
-    write(name);
-    write(b": ");
-    io::print_decimal(1, tally.agreed);
-    write(b" agreed, ");
-    io::print_decimal(1, tally.differed);
-    write(b" differed\n");
+    write(rt, name);
+    write(rt, b": ");
+    write_number(rt, tally.agreed);
+    write(rt, b" agreed, ");
+    write_number(rt, tally.differed);
+    write(rt, b" differed\n");
 }
 
 fn read_stream(line: &[u8], out: &mut [u8]) -> usize {
@@ -106,7 +131,7 @@ fn read_stream(line: &[u8], out: &mut [u8]) -> usize {
 }
 
 // Asks the three streams of these lines.
-fn run_streams(line1: &[u8], line2: &[u8], line3: &[u8], answers: &[u8]) -> Tally {
+fn run_streams(rt: &impl Print, line1: &[u8], line2: &[u8], line3: &[u8], answers: &[u8]) -> Tally {
     let mut tables = [0u8; 65536];
     let t = read_stream(line1, &mut tables);
     let mut strings = [0u8; 65536];
@@ -114,6 +139,7 @@ fn run_streams(line1: &[u8], line2: &[u8], line3: &[u8], answers: &[u8]) -> Tall
     let mut blob = [0u8; 65536];
     let b = read_stream(line3, &mut blob);
     run_answers(
+        rt,
         answers,
         numbers::cut(&tables, 0, t),
         numbers::cut(&strings, 0, s),
@@ -122,7 +148,7 @@ fn run_streams(line1: &[u8], line2: &[u8], line3: &[u8], answers: &[u8]) -> Tall
     )
 }
 
-fn run_block(block: &[u8]) {
+fn run_block(rt: &impl Print, block: &[u8]) {
     let name = case_text::line(block);
     let after_name = case_text::after(block, name.len());
     let line1 = case_text::line(after_name);
@@ -131,15 +157,15 @@ fn run_block(block: &[u8]) {
     let after_strings = case_text::after(after_tables, line2.len());
     let line3 = case_text::line(after_strings);
     let answers = case_text::after(after_strings, line3.len());
-    write_tally(name, run_streams(line1, line2, line3, answers));
+    write_tally(rt, name, run_streams(rt, line1, line2, line3, answers));
 }
 
-fn run_blocks(text: &[u8]) {
+fn run_blocks(rt: &impl Print, text: &[u8]) {
     let mut at = heaps::find_byte(text, 0, b'@');
     while at < text.len() {
         let start = at + 1;
         at = heaps::find_byte(text, start, b'@');
-        run_block(numbers::cut(text, start, at - start));
+        run_block(rt, numbers::cut(text, start, at - start));
     }
 }
 
@@ -147,24 +173,25 @@ fn file_buffer() -> [u8; 1_048_576] {
     [0; 1_048_576]
 }
 
-fn run_file(path: &[u8]) {
-    let file = os::open_read(path);
-    if file < 0 {
-        os::fail(path);
-        return;
+fn run_file(rt: &(impl Files + Print + Eprint), path: &str) {
+    match fs::open(rt, path) {
+        Ok(mut file) => {
+            let mut space = file_buffer();
+            let n = intake::read_full(&mut file, &mut space);
+            if n == 1_048_576 {
+                write(rt, b"FAIL the file does not fit\n");
+            }
+            run_blocks(rt, numbers::cut(&space, 0, n));
+        }
+        Err(why) => {
+            write_failed(rt, path, why);
+        }
     }
-    let mut space = file_buffer();
-    let n = io::read_full(file, &mut space);
-    libc::close(file);
-    if n == 1_048_576 {
-        write(b"FAIL the file does not fit\n");
-    }
-    run_blocks(numbers::cut(&space, 0, n));
 }
 
-fn main() {
-    run_file(b"cases");
-    run_file(b"steps");
-    run_file(b"modes");
-    run_file(b"wrong");
+fn main(rt: HostRuntime) {
+    run_file(&rt, "cases");
+    run_file(&rt, "steps");
+    run_file(&rt, "modes");
+    run_file(&rt, "wrong");
 }

@@ -4,13 +4,17 @@
 #![tactic(auto)]
 
 use extents_text::Sizes;
+use std::io;
+use std::process::ExitCode;
 
-fn main() {
+fn main(rt: HostRuntime) -> io::Result<ExitCode> {
     let mut space = [0u8; 65537];
-    let n = io::read_full(0, &mut space);
+    let n = intake::read_full(&mut rt.reader(), &mut space);
     let mut text = [0u8; 8192];
     let end = extents_text::write_extents(numbers::cut(&space, 0, n), Sizes::Summed, &mut text);
-    if !io::write_all(1, numbers::cut(&text, 0, end)) {
-        io::write_all(2, b"extents: cannot write to standard output\n");
+    if rt.write_all(numbers::cut(&text, 0, end)).is_ok() {
+        return Ok(ExitCode::SUCCESS);
     }
+    eprintln!(rt; "extents: cannot write to standard output")?;
+    Ok(ExitCode::FAILURE)
 }

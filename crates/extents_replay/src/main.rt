@@ -8,6 +8,9 @@
 ghost use Rattle.std.specs.Prelude.{◌≤◌};
 
 use extents_text::Sizes;
+use std::io::Read;
+use std::rt::Files;
+use std::{fs, io};
 
 // What became of a case.
 #[derive(Drop)]
@@ -17,16 +20,28 @@ enum Outcome {
     NoCase,
 }
 
-fn write(text: &[u8]) {
-    io::write_all(1, text);
+// Bytes for an expected text.
+const ROOM: usize = 65_536;
+
+fn write(rt: &impl Print, text: &[u8]) {
+    let _ = rt.write_all(text);
+}
+
+fn write_number(rt: &impl Print, n: u64) {
+    let _ = rt.print(n);
+}
+
+// Says on standard error why a file cannot be opened.
+fn write_failed(rt: &impl Eprint, path: &str, why: io::Error) {
+    let _ = eprintln!(rt; "{path}: {why}");
 }
 
 // Reads n bytes to the front of a buffer, and answers whether they came.
-fn read_front(file: i32, buffer: &mut [u8], n: usize) -> bool {
+fn read_front(file: &mut impl Read, buffer: &mut [u8], n: usize) -> bool {
     if buffer.len() < n {
         return false;
     }
-    io::read_full(file, &mut buffer[..n]) == n
+    file.read_exact(&mut buffer[..n]).is_ok()
 }
 
 fn agrees(input: &[u8], sizes: Sizes, expected: &[u8]) -> bool {
@@ -36,7 +51,7 @@ fn agrees(input: &[u8], sizes: Sizes, expected: &[u8]) -> bool {
 }
 
 // One case, of which the file must hold all bytes.
-fn replay_case(file: i32, sizes: Sizes) -> Outcome {
+fn replay_case(file: &mut impl Read, sizes: Sizes) -> Outcome {
     let mut lengths = [0u8; 8];
     if !read_front(file, &mut lengths, 8) {
         return Outcome::NoCase;
@@ -47,7 +62,7 @@ fn replay_case(file: i32, sizes: Sizes) -> Outcome {
     if !read_front(file, &mut input, n) {
         return Outcome::NoCase;
     }
-    let mut expected = io::large_buffer();
+    let mut expected = [0u8; ROOM];
     if !read_front(file, &mut expected, m) {
         return Outcome::NoCase;
     }
@@ -61,21 +76,21 @@ fn replay_case(file: i32, sizes: Sizes) -> Outcome {
     Outcome::Differed
 }
 
-fn write_differs(case: u64) {
-    write(b"differs: case ");
-    io::print_decimal(1, case);
-    write(b"\n");
+fn write_differs(rt: &impl Print, case: u64) {
+    write(rt, b"differs: case ");
+    write_number(rt, case);
+    write(rt, b"\n");
 }
 
-fn write_counts(agreed: u64, differed: u64) {
-    io::print_decimal(1, agreed);
-    write(b" agreed, ");
-    io::print_decimal(1, differed);
-    write(b" differed\n");
+fn write_counts(rt: &impl Print, agreed: u64, differed: u64) {
+    write_number(rt, agreed);
+    write(rt, b" agreed, ");
+    write_number(rt, differed);
+    write(rt, b" differed\n");
 }
 
 // Every case of the file. No file has as many as the loop has turns.
-fn replay(file: i32, sizes: Sizes) {
+fn replay(rt: &impl Print, file: &mut impl Read, sizes: Sizes) {
     let mut agreed: u64 = 0;
     let mut differed: u64 = 0;
     let mut case: u64 = 0;
@@ -86,7 +101,7 @@ fn replay(file: i32, sizes: Sizes) {
             }
             Outcome::Differed => {
                 if differed < 10 {
-                    write_differs(case);
+                    write_differs(rt, case);
                 }
                 differed += 1;
             }
@@ -96,27 +111,28 @@ fn replay(file: i32, sizes: Sizes) {
         }
         case += 1;
     }
-    write_counts(agreed, differed);
+    write_counts(rt, agreed, differed);
 }
 
-fn replay_file(path: &[u8], sizes: Sizes, by: &[u8]) {
-    let file = os::open_read(path);
-    if file < 0 {
-        os::fail(path);
-        return;
+fn replay_file(rt: &(impl Files + Print + Eprint), path: &str, sizes: Sizes, by: &[u8]) {
+    match fs::open(rt, path) {
+        Ok(mut file) => {
+            write(rt, path.as_bytes());
+            write(rt, by);
+            replay(rt, &mut file, sizes);
+        }
+        Err(why) => {
+            write_failed(rt, path, why);
+        }
     }
-    write(path);
-    write(by);
-    replay(file, sizes);
-    libc::close(file);
 }
 
-fn replay_both(path: &[u8]) {
-    replay_file(path, Sizes::Summed, b", by sums:\n");
-    replay_file(path, Sizes::Tabled, b", by table:\n");
+fn replay_both(rt: &(impl Files + Print + Eprint), path: &str) {
+    replay_file(rt, path, Sizes::Summed, b", by sums:\n");
+    replay_file(rt, path, Sizes::Tabled, b", by table:\n");
 }
 
-fn main() {
-    replay_both(b"cases");
-    replay_both(b"wrong");
+fn main(rt: HostRuntime) {
+    replay_both(&rt, "cases");
+    replay_both(&rt, "wrong");
 }

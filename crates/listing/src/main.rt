@@ -17,6 +17,9 @@ use bundle::Bundle;
 use header::{Opened, Options};
 use lines::Cursor;
 use rows::columns;
+use std::io;
+use std::io::Read;
+use std::process::ExitCode;
 
 // Words for the layout, and for the rows by key of every input that the program takes, and bytes of a piece of the listing; and both for
 // one whose tables have at most so many bytes, which costs fewer zeros. A piece that is shorter than the longest line, 12,298 bytes, could
@@ -51,14 +54,15 @@ struct Written {
 }
 
 // Writes a refusal, which is the whole listing.
-fn write_refused(why: Refusal) -> bool {
+fn write_refused(rt: &impl Print, why: Refusal) -> bool {
     let mut space = [0u8; 32];
     let step = lines::push_refused(&mut space, 0, why);
-    io::write_all(1, numbers::cut(&space, 0, step.at))
+    rt.write_all(numbers::cut(&space, 0, step.at)).is_ok()
 }
 
 // Writes one piece of the listing, as much as the buffer holds.
 fn write_piece(
+    rt: &impl Print,
     tables: &[u8],
     strings: &[u8],
     blob: &[u8],
@@ -82,7 +86,7 @@ fn write_piece(
     let step = on.step;
     let next = step.next;
     let after = on.known;
-    let whole = io::write_all(1, numbers::cut(space, 0, step.at));
+    let whole = rt.write_all(numbers::cut(space, 0, step.at)).is_ok();
     Written {
         next,
         known: after,
@@ -93,6 +97,7 @@ fn write_piece(
 // Every piece, and whether all were written; what is beyond the ceiling is looked for only where something can be. No listing has as many
 // as the loop has turns.
 fn write_pieces(
+    rt: &impl Print,
     tables: &[u8],
     strings: &[u8],
     blob: &[u8],
@@ -112,7 +117,7 @@ fn write_pieces(
             return true;
         }
         let written = write_piece(
-            tables, strings, blob, options, layout, all, cursor, known, space,
+            rt, tables, strings, blob, options, layout, all, cursor, known, space,
         );
         if !written.whole {
             return false;
@@ -126,6 +131,7 @@ fn write_pieces(
 
 // The same, with memories of rows by key in lent words.
 fn write_held(
+    rt: &impl Print,
     tables: &[u8],
     strings: &[u8],
     blob: &[u8],
@@ -139,11 +145,12 @@ fn write_held(
     requires size_in_bounds { columns.size ≤ length work.old }
 {
     holding::hold(work, tables, layout);
-    write_pieces(tables, strings, blob, options, work, space)
+    write_pieces(rt, tables, strings, blob, options, work, space)
 }
 
 // The same, with as many words as serve the tables, and pieces to match.
 fn write_opened(
+    rt: &impl Print,
     tables: &[u8],
     strings: &[u8],
     blob: &[u8],
@@ -157,69 +164,74 @@ fn write_opened(
         let mut least = [0u32; LEAST_WORDS];
         let mut brief = [0u8; LEAST_PIECE];
         return write_held(
-            tables, strings, blob, options, layout, &mut least, &mut brief,
+            rt, tables, strings, blob, options, layout, &mut least, &mut brief,
         );
     }
     if tables.len() <= FEW_BYTES {
         let mut few = [0u32; FEW_WORDS];
         let mut short = [0u8; FEW_PIECE];
-        return write_held(tables, strings, blob, options, layout, &mut few, &mut short);
+        return write_held(
+            rt, tables, strings, blob, options, layout, &mut few, &mut short,
+        );
     }
     let mut work = [0u32; WORDS];
     let mut space = [0u8; PIECE];
     write_held(
-        tables, strings, blob, options, layout, &mut work, &mut space,
+        rt, tables, strings, blob, options, layout, &mut work, &mut space,
     )
 }
 
 // The listing of three streams. The stream is opened once, and its columns are looked through once.
-fn write_streams(tables: &[u8], strings: &[u8], blob: &[u8]) -> bool {
+fn write_streams(rt: &impl Print, tables: &[u8], strings: &[u8], blob: &[u8]) -> bool {
     let options = header::base_options();
     let mut layout = [0u32; columns::SIZE];
     match opening::open(tables, options, &mut layout) {
-        Opened::Refused(why) => write_refused(why),
+        Opened::Refused(why) => write_refused(rt, why),
         Opened::Ready => {
             marks::mark_methods(tables, &mut layout);
-            write_opened(tables, strings, blob, options, &layout)
+            write_opened(rt, tables, strings, blob, options, &layout)
         }
     }
 }
 
-fn write_listing(input: &[u8]) -> bool {
+fn write_listing(rt: &impl Print, input: &[u8]) -> bool {
     match bundle::open_bundle(input) {
         Bundle::Streams(t, s, b) => {
             let tables = numbers::cut(input, t.at, t.len);
             let strings = numbers::cut(input, s.at, s.len);
             let blob = numbers::cut(input, b.at, b.len);
-            write_streams(tables, strings, blob)
+            write_streams(rt, tables, strings, blob)
         }
-        Bundle::Malformed => write_refused(Refusal::BadInput),
+        Bundle::Malformed => write_refused(rt, Refusal::BadInput),
     }
 }
 
 // The listing of an input that begins with what was read, and goes on.
-fn write_long(begun: &[u8]) -> bool {
+fn write_long(rt: &impl Print, input: &mut impl Read, begun: &[u8]) -> bool {
     let mut space = [0u8; INPUT];
     let at = push(&mut space, 0, begun);
     if INPUT < at {
-        return write_refused(Refusal::BadInput);
+        return write_refused(rt, Refusal::BadInput);
     }
-    let n = io::read_full(0, &mut space[at..]);
-    write_listing(numbers::cut(&space, 0, at + n))
+    let n = intake::read_full(input, &mut space[at..]);
+    write_listing(rt, numbers::cut(&space, 0, at + n))
 }
 
 // The listing of standard input.
-fn write_input() -> bool {
+fn write_input(rt: &(impl Print + Input)) -> bool {
+    let mut input = rt.reader();
     let mut small = [0u8; SMALL_INPUT];
-    let n = io::read_full(0, &mut small);
+    let n = intake::read_full(&mut input, &mut small);
     if n < SMALL_INPUT {
-        return write_listing(numbers::cut(&small, 0, n));
+        return write_listing(rt, numbers::cut(&small, 0, n));
     }
-    write_long(&small)
+    write_long(rt, &mut input, &small)
 }
 
-fn main() {
-    if !write_input() {
-        io::write_all(2, b"listing: cannot write to standard output\n");
+fn main(rt: HostRuntime) -> io::Result<ExitCode> {
+    if write_input(&rt) {
+        return Ok(ExitCode::SUCCESS);
     }
+    eprintln!(rt; "listing: cannot write to standard output")?;
+    Ok(ExitCode::FAILURE)
 }

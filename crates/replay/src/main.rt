@@ -6,6 +6,9 @@
 #![tactic(auto)]
 
 use lines::Cursor;
+use std::io::Read;
+use std::rt::Files;
+use std::{fs, io};
 
 // What became of a case.
 #[derive(Drop)]
@@ -23,24 +26,36 @@ struct Compared {
     same: bool,
 }
 
-fn write(text: &[u8]) {
-    io::write_all(1, text);
+fn write(rt: &impl Print, text: &[u8]) {
+    let _ = rt.write_all(text);
+}
+
+fn write_number(rt: &impl Print, n: u64) {
+    let _ = rt.print(n);
+}
+
+// Says on standard error why a file cannot be opened.
+fn write_failed(rt: &impl Eprint, path: &str, why: io::Error) {
+    let _ = eprintln!(rt; "{path}: {why}");
 }
 
 // Reads n bytes to the front of a buffer, and answers whether they came.
-fn read_front(file: i32, buffer: &mut [u8], n: usize) -> bool {
+fn read_front(file: &mut impl Read, buffer: &mut [u8], n: usize) -> bool {
     if buffer.len() < n {
         return false;
     }
-    io::read_full(file, &mut buffer[..n]) == n
+    file.read_exact(&mut buffer[..n]).is_ok()
 }
 
 // Words for the layout, and for the rows by key.
 const WORDS: usize = 24_000;
 
+// Bytes for a piece of a listing.
+const PIECE: usize = 65_536;
+
 // Holds a piece of the listing against as many bytes of the file.
-fn compare_piece(file: i32, input: &[u8], from: Cursor, left: usize) -> Compared {
-    let mut text = io::large_buffer();
+fn compare_piece(file: &mut impl Read, input: &[u8], from: Cursor, left: usize) -> Compared {
+    let mut text = [0u8; PIECE];
     let mut work = [0u32; WORDS];
     let piece = listing_text::fill_input(input, from, &mut work, &mut text);
     let next = piece.next;
@@ -52,7 +67,7 @@ fn compare_piece(file: i32, input: &[u8], from: Cursor, left: usize) -> Compared
             same: false,
         };
     }
-    let mut expected = io::large_buffer();
+    let mut expected = [0u8; PIECE];
     let came = read_front(file, &mut expected, n);
     let same = came && check::same(numbers::cut(&text, 0, n), numbers::cut(&expected, 0, n));
     Compared {
@@ -62,13 +77,13 @@ fn compare_piece(file: i32, input: &[u8], from: Cursor, left: usize) -> Compared
     }
 }
 
-fn pass_byte(file: i32) {
+fn pass_byte(file: &mut impl Read) {
     let mut space = [0u8; 1];
-    io::read_full(file, &mut space);
+    let _ = file.read(&mut space);
 }
 
 // Reads past the rest of a case.
-fn pass_over(file: i32, n: usize) {
+fn pass_over(file: &mut impl Read, n: usize) {
     let mut turns = n;
     while 0 < turns {
         pass_byte(file);
@@ -77,7 +92,7 @@ fn pass_over(file: i32, n: usize) {
 }
 
 // Holds a whole listing against the file.
-fn compare_listing(file: i32, input: &[u8], expected: usize) -> Outcome {
+fn compare_listing(file: &mut impl Read, input: &[u8], expected: usize) -> Outcome {
     let mut cursor = lines::first_cursor();
     let mut left = expected;
     let mut turns: u64 = 0xFFFF_FFFF_FFFF_FFFF;
@@ -100,7 +115,7 @@ fn compare_listing(file: i32, input: &[u8], expected: usize) -> Outcome {
     Outcome::Differed
 }
 
-fn replay_case(file: i32) -> Outcome {
+fn replay_case(file: &mut impl Read) -> Outcome {
     let mut lengths = [0u8; 8];
     if !read_front(file, &mut lengths, 8) {
         return Outcome::NoCase;
@@ -114,21 +129,21 @@ fn replay_case(file: i32) -> Outcome {
     compare_listing(file, numbers::cut(&input, 0, n), expected)
 }
 
-fn write_differs(case: u64) {
-    write(b"differs: case ");
-    io::print_decimal(1, case);
-    write(b"\n");
+fn write_differs(rt: &impl Print, case: u64) {
+    write(rt, b"differs: case ");
+    write_number(rt, case);
+    write(rt, b"\n");
 }
 
-fn write_counts(agreed: u64, differed: u64) {
-    io::print_decimal(1, agreed);
-    write(b" agreed, ");
-    io::print_decimal(1, differed);
-    write(b" differed\n");
+fn write_counts(rt: &impl Print, agreed: u64, differed: u64) {
+    write_number(rt, agreed);
+    write(rt, b" agreed, ");
+    write_number(rt, differed);
+    write(rt, b" differed\n");
 }
 
 // Every case of the file. No file has as many as the loop has turns.
-fn replay(file: i32) {
+fn replay(rt: &impl Print, file: &mut impl Read) {
     let mut agreed: u64 = 0;
     let mut differed: u64 = 0;
     let mut case: u64 = 0;
@@ -139,7 +154,7 @@ fn replay(file: i32) {
             }
             Outcome::Differed => {
                 if differed < 10 {
-                    write_differs(case);
+                    write_differs(rt, case);
                 }
                 differed += 1;
             }
@@ -149,22 +164,23 @@ fn replay(file: i32) {
         }
         case += 1;
     }
-    write_counts(agreed, differed);
+    write_counts(rt, agreed, differed);
 }
 
-fn replay_file(path: &[u8]) {
-    let file = os::open_read(path);
-    if file < 0 {
-        os::fail(path);
-        return;
+fn replay_file(rt: &(impl Files + Print + Eprint), path: &str) {
+    match fs::open(rt, path) {
+        Ok(mut file) => {
+            write(rt, path.as_bytes());
+            write(rt, b":\n");
+            replay(rt, &mut file);
+        }
+        Err(why) => {
+            write_failed(rt, path, why);
+        }
     }
-    write(path);
-    write(b":\n");
-    replay(file);
-    libc::close(file);
 }
 
-fn main() {
-    replay_file(b"cases");
-    replay_file(b"wrong");
+fn main(rt: HostRuntime) {
+    replay_file(&rt, "cases");
+    replay_file(&rt, "wrong");
 }

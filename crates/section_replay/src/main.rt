@@ -8,6 +8,9 @@
 
 use check::same;
 use numbers::cut;
+use std::io::Read;
+use std::rt::Files;
+use std::{fs, io};
 
 // What became of a case.
 #[derive(Drop)]
@@ -30,16 +33,28 @@ const PLACES: usize = 4096;
 
 const OFFSET_BYTES: usize = 4;
 
-fn write(text: &[u8]) {
-    io::write_all(1, text);
+// Bytes for a section, or for its offsets.
+const ROOM: usize = 65_536;
+
+fn write(rt: &impl Print, text: &[u8]) {
+    let _ = rt.write_all(text);
+}
+
+fn write_number(rt: &impl Print, n: u64) {
+    let _ = rt.print(n);
+}
+
+// Says on standard error why a file cannot be opened.
+fn write_failed(rt: &impl Eprint, path: &str, why: io::Error) {
+    let _ = eprintln!(rt; "{path}: {why}");
 }
 
 // Reads n bytes to the front of a buffer, and answers whether they came.
-fn read_front(file: i32, buffer: &mut [u8], n: usize) -> bool {
+fn read_front(file: &mut impl Read, buffer: &mut [u8], n: usize) -> bool {
     if buffer.len() < n {
         return false;
     }
-    io::read_full(file, &mut buffer[..n]) == n
+    file.read_exact(&mut buffer[..n]).is_ok()
 }
 
 // What a way puts at a place.
@@ -88,7 +103,7 @@ fn holds(buffer: &[u8], text: &[u8]) -> bool {
 
 // The same of offsets, by their bytes.
 fn holds_offsets(offsets: &[u32], bytes: &[u8]) -> bool {
-    let mut space = io::large_buffer();
+    let mut space = [0u8; ROOM];
     let end = section_text::push_offsets(&mut space, 0, offsets, offsets.len());
     holds(cut(&space, 0, end), bytes)
 }
@@ -150,7 +165,7 @@ fn gives_within(
     count: usize,
     way: u32,
 ) -> bool {
-    let mut section = io::large_buffer();
+    let mut section = [0u8; ROOM];
     let mut offsets = [0u32; PLACES];
     gives_part(
         input,
@@ -215,7 +230,7 @@ fn agrees(input: &[u8], head: &[u8], slots: &[u8], places: &[u8]) -> bool {
 }
 
 // One case, of which the file must hold all bytes.
-fn replay_case(file: i32) -> Outcome {
+fn replay_case(file: &mut impl Read) -> Outcome {
     let mut lengths = [0u8; 16];
     if !read_front(file, &mut lengths, 16) {
         return Outcome::NoCase;
@@ -232,11 +247,11 @@ fn replay_case(file: i32) -> Outcome {
     if !read_front(file, &mut head, h) {
         return Outcome::NoCase;
     }
-    let mut slots = io::large_buffer();
+    let mut slots = [0u8; ROOM];
     if !read_front(file, &mut slots, s) {
         return Outcome::NoCase;
     }
-    let mut places = io::large_buffer();
+    let mut places = [0u8; ROOM];
     if !read_front(file, &mut places, o) {
         return Outcome::NoCase;
     }
@@ -251,21 +266,21 @@ fn replay_case(file: i32) -> Outcome {
     Outcome::Differed
 }
 
-fn write_differs(case: u64) {
-    write(b"differs: case ");
-    io::print_decimal(1, case);
-    write(b"\n");
+fn write_differs(rt: &impl Print, case: u64) {
+    write(rt, b"differs: case ");
+    write_number(rt, case);
+    write(rt, b"\n");
 }
 
-fn write_counts(agreed: u64, differed: u64) {
-    io::print_decimal(1, agreed);
-    write(b" agreed, ");
-    io::print_decimal(1, differed);
-    write(b" differed\n");
+fn write_counts(rt: &impl Print, agreed: u64, differed: u64) {
+    write_number(rt, agreed);
+    write(rt, b" agreed, ");
+    write_number(rt, differed);
+    write(rt, b" differed\n");
 }
 
 // Every case of the file. No file has as many as the loop has turns.
-fn replay(file: i32) {
+fn replay(rt: &impl Print, file: &mut impl Read) {
     let mut agreed: u64 = 0;
     let mut differed: u64 = 0;
     let mut case: u64 = 0;
@@ -276,7 +291,7 @@ fn replay(file: i32) {
             }
             Outcome::Differed => {
                 if differed < 10 {
-                    write_differs(case);
+                    write_differs(rt, case);
                 }
                 differed += 1;
             }
@@ -286,22 +301,23 @@ fn replay(file: i32) {
         }
         case += 1;
     }
-    write_counts(agreed, differed);
+    write_counts(rt, agreed, differed);
 }
 
-fn replay_file(path: &[u8]) {
-    let file = os::open_read(path);
-    if file < 0 {
-        os::fail(path);
-        return;
+fn replay_file(rt: &(impl Files + Print + Eprint), path: &str) {
+    match fs::open(rt, path) {
+        Ok(mut file) => {
+            write(rt, path.as_bytes());
+            write(rt, b":\n");
+            replay(rt, &mut file);
+        }
+        Err(why) => {
+            write_failed(rt, path, why);
+        }
     }
-    write(path);
-    write(b":\n");
-    replay(file);
-    libc::close(file);
 }
 
-fn main() {
-    replay_file(b"cases");
-    replay_file(b"wrong");
+fn main(rt: HostRuntime) {
+    replay_file(&rt, "cases");
+    replay_file(&rt, "wrong");
 }

@@ -9,6 +9,9 @@
 mod pieces;
 mod types;
 
+use std::rt::Files;
+use std::{fs, io};
+
 // What became of a line.
 #[derive(Drop)]
 enum Outcome {
@@ -23,11 +26,20 @@ struct Tally {
     differed: u64,
 }
 
-fn write(text: &[u8]) {
-    io::write_all(1, text);
+fn write(rt: &impl Print, text: &[u8]) {
+    let _ = rt.write_all(text);
 }
 
-fn run_line(line: &[u8], tables: &[u8], strings: &[u8], blob: &[u8]) -> Outcome {
+fn write_number(rt: &impl Print, n: u64) {
+    let _ = rt.print(n);
+}
+
+// Says on standard error why a file cannot be opened.
+fn write_failed(rt: &impl Eprint, path: &str, why: io::Error) {
+    let _ = eprintln!(rt; "{path}: {why}");
+}
+
+fn run_line(rt: &impl Print, line: &[u8], tables: &[u8], strings: &[u8], blob: &[u8]) -> Outcome {
     if line.len() == 0 {
         return Outcome::NoType;
     }
@@ -37,13 +49,13 @@ fn run_line(line: &[u8], tables: &[u8], strings: &[u8], blob: &[u8]) -> Outcome 
     if types::agrees(line, tables, strings, blob) {
         return Outcome::Agreed;
     }
-    write(b"FAIL  ");
-    write(line);
-    write(b"\n");
+    write(rt, b"FAIL  ");
+    write(rt, line);
+    write(rt, b"\n");
     Outcome::Differed
 }
 
-fn run_types(text: &[u8], tables: &[u8], strings: &[u8], blob: &[u8]) -> Tally {
+fn run_types(rt: &impl Print, text: &[u8], tables: &[u8], strings: &[u8], blob: &[u8]) -> Tally {
     let mut agreed: u64 = 0;
     let mut differed: u64 = 0;
     let mut at = 0;
@@ -51,7 +63,7 @@ fn run_types(text: &[u8], tables: &[u8], strings: &[u8], blob: &[u8]) -> Tally {
         let end = heaps::find_byte(text, at, b'\n');
         let line = numbers::cut(text, at, end - at);
         at = end + 1;
-        match run_line(line, tables, strings, blob) {
+        match run_line(rt, line, tables, strings, blob) {
             Outcome::Agreed => {
                 agreed += 1;
             }
@@ -64,18 +76,18 @@ fn run_types(text: &[u8], tables: &[u8], strings: &[u8], blob: &[u8]) -> Tally {
     Tally { agreed, differed }
 }
 
-fn write_tally(name: &[u8], tally: Tally) {
+fn write_tally(rt: &impl Print, name: &[u8], tally: Tally) {
     if tally.differed == 0 {
-        write(b"ok   ");
+        write(rt, b"ok   ");
     } else {
-        write(b"FAIL ");
+        write(rt, b"FAIL ");
     }
-    write(name);
-    write(b": ");
-    io::print_decimal(1, tally.agreed);
-    write(b" agreed, ");
-    io::print_decimal(1, tally.differed);
-    write(b" differed\n");
+    write(rt, name);
+    write(rt, b": ");
+    write_number(rt, tally.agreed);
+    write(rt, b" agreed, ");
+    write_number(rt, tally.differed);
+    write(rt, b" differed\n");
 }
 
 fn read_stream(line: &[u8], out: &mut [u8]) -> usize {
@@ -83,7 +95,7 @@ fn read_stream(line: &[u8], out: &mut [u8]) -> usize {
     case_text::read_hex(case_text::after(line, key.len()), out)
 }
 
-fn run_block(block: &[u8]) {
+fn run_block(rt: &impl Print, block: &[u8]) {
     let name = case_text::line(block);
     let after_name = case_text::after(block, name.len());
     let line1 = case_text::line(after_name);
@@ -99,20 +111,21 @@ fn run_block(block: &[u8]) {
     let mut blob = [0u8; 65536];
     let b = read_stream(line3, &mut blob);
     let tally = run_types(
+        rt,
         types,
         numbers::cut(&tables, 0, t),
         numbers::cut(&strings, 0, s),
         numbers::cut(&blob, 0, b),
     );
-    write_tally(name, tally);
+    write_tally(rt, name, tally);
 }
 
-fn run_blocks(text: &[u8]) {
+fn run_blocks(rt: &impl Print, text: &[u8]) {
     let mut at = heaps::find_byte(text, 0, b'@');
     while at < text.len() {
         let start = at + 1;
         at = heaps::find_byte(text, start, b'@');
-        run_block(numbers::cut(text, start, at - start));
+        run_block(rt, numbers::cut(text, start, at - start));
     }
 }
 
@@ -120,22 +133,23 @@ fn file_buffer() -> [u8; 1_048_576] {
     [0; 1_048_576]
 }
 
-fn run_file(path: &[u8]) {
-    let file = os::open_read(path);
-    if file < 0 {
-        os::fail(path);
-        return;
+fn run_file(rt: &(impl Files + Print + Eprint), path: &str) {
+    match fs::open(rt, path) {
+        Ok(mut file) => {
+            let mut space = file_buffer();
+            let n = intake::read_full(&mut file, &mut space);
+            if n == 1_048_576 {
+                write(rt, b"FAIL the file does not fit\n");
+            }
+            run_blocks(rt, numbers::cut(&space, 0, n));
+        }
+        Err(why) => {
+            write_failed(rt, path, why);
+        }
     }
-    let mut space = file_buffer();
-    let n = io::read_full(file, &mut space);
-    libc::close(file);
-    if n == 1_048_576 {
-        write(b"FAIL the file does not fit\n");
-    }
-    run_blocks(numbers::cut(&space, 0, n));
 }
 
-fn main() {
-    run_file(b"cases");
-    run_file(b"wrong");
+fn main(rt: HostRuntime) {
+    run_file(&rt, "cases");
+    run_file(&rt, "wrong");
 }

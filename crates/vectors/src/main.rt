@@ -11,26 +11,37 @@ ghost use Rattle.std.specs.Prelude.{◌≤◌};
 mod answers;
 mod walk_text;
 
-fn write(text: &[u8]) {
-    io::write_all(1, text);
+use std::rt::Files;
+use std::{fs, io};
+
+// Bytes for a file of cases.
+const ROOM: usize = 65_536;
+
+fn write(rt: &impl Print, text: &[u8]) {
+    let _ = rt.write_all(text);
 }
 
-fn write_agreed(line: &[u8]) {
-    write(b"ok    ");
-    write(line);
-    write(b"\n");
+// Says on standard error why a file cannot be opened.
+fn write_failed(rt: &impl Eprint, path: &str, why: io::Error) {
+    let _ = eprintln!(rt; "{path}: {why}");
 }
 
-fn write_wrong(line: &[u8], came: &[u8]) {
-    write(b"WRONG ");
-    write(line);
-    write(b", came ");
-    write(came);
-    write(b"\n");
+fn write_agreed(rt: &impl Print, line: &[u8]) {
+    write(rt, b"ok    ");
+    write(rt, line);
+    write(rt, b"\n");
+}
+
+fn write_wrong(rt: &impl Print, line: &[u8], came: &[u8]) {
+    write(rt, b"WRONG ");
+    write(rt, line);
+    write(rt, b", came ");
+    write(rt, came);
+    write(rt, b"\n");
 }
 
 // Whether the case agrees.
-fn run_case(line: &[u8], loud: bool) -> bool {
+fn run_case(rt: &impl Print, line: &[u8], loud: bool) -> bool {
     let kind = case_text::first(line);
     let after_kind = case_text::after(line, kind.len());
     let hex = case_text::first(after_kind);
@@ -46,17 +57,17 @@ fn run_case(line: &[u8], loud: bool) -> bool {
     let came = numbers::cut(&space, 0, m);
     let agrees = check::same(came, expected);
     if !agrees {
-        write_wrong(line, came);
+        write_wrong(rt, line, came);
         return false;
     }
     if loud {
-        write_agreed(line);
+        write_agreed(rt, line);
     }
     true
 }
 
 // 1 if the line holds a case that agrees.
-fn run_line(line: &[u8], loud: bool) -> usize
+fn run_line(rt: &impl Print, line: &[u8], loud: bool) -> usize
     ensures { result ≤ 1 }
 {
     if line.len() == 0 {
@@ -65,43 +76,45 @@ fn run_line(line: &[u8], loud: bool) -> usize
     if line[0] == b'#' {
         return 0;
     }
-    if run_case(line, loud) {
+    if run_case(rt, line, loud) {
         return 1;
     }
     0
 }
 
 // How many cases agree.
-fn run_cases(text: &[u8], loud: bool) -> usize {
+fn run_cases(rt: &impl Print, text: &[u8], loud: bool) -> usize {
     let mut agreed = 0;
     let mut at = 0;
     while at < text.len() {
         let end = heaps::find_byte(text, at, b'\n');
-        agreed += run_line(numbers::cut(text, at, end - at), loud);
+        agreed += run_line(rt, numbers::cut(text, at, end - at), loud);
         at = end + 1;
     }
     agreed
 }
 
-fn run_file(path: &[u8], loud: bool) -> usize {
-    let file = os::open_read(path);
-    if file < 0 {
-        os::fail(path);
-        return 0;
+fn run_file(rt: &(impl Files + Print + Eprint), path: &str, loud: bool) -> usize {
+    match fs::open(rt, path) {
+        Ok(mut file) => {
+            let mut space = [0u8; ROOM];
+            let n = intake::read_full(&mut file, &mut space);
+            run_cases(rt, numbers::cut(&space, 0, n), loud)
+        }
+        Err(why) => {
+            write_failed(rt, path, why);
+            0
+        }
     }
-    let mut space = io::large_buffer();
-    let n = io::read_full(file, &mut space);
-    libc::close(file);
-    run_cases(numbers::cut(&space, 0, n), loud)
 }
 
-fn main() {
-    run_file(b"cases", true);
-    let agreed = run_file(b"recorded", false);
+fn main(rt: HostRuntime) {
+    run_file(&rt, "cases", true);
+    let agreed = run_file(&rt, "recorded", false);
     let mut space = [0u8; 64];
     let n = buffers::push_decimal(&mut space, 0, agreed);
-    write(numbers::cut(&space, 0, n));
-    write(b" recorded answers of the Rust agree\n");
-    write(b"wrong on purpose:\n");
-    run_file(b"wrong", true);
+    write(&rt, numbers::cut(&space, 0, n));
+    write(&rt, b" recorded answers of the Rust agree\n");
+    write(&rt, b"wrong on purpose:\n");
+    run_file(&rt, "wrong", true);
 }

@@ -2,6 +2,9 @@
 use buffers::{Reply, push, push_decimal, put, refusal_number};
 use tables::Extents;
 
+// Bytes for a stream.
+const ROOM: usize = 65_536;
+
 // The walk of a stream that begins with these bytes, with so many zeros after them.
 pub fn push_walk(out: &mut [u8], begin: &[u8], zeros: usize) -> usize {
     push_extents(out, walk_of(begin, zeros))
@@ -9,7 +12,7 @@ pub fn push_walk(out: &mut [u8], begin: &[u8], zeros: usize) -> usize {
 
 // The reply for a stream that begins with these bytes, with so many zeros after them.
 fn walk_of(begin: &[u8], zeros: usize) -> Extents {
-    let mut space = io::large_buffer();
+    let mut space = [0u8; ROOM];
     let n = push(&mut space, 0, begin);
     walks::walk(numbers::cut(&space, 0, sum(n, zeros)))
 }

@@ -56,7 +56,7 @@ overflow_add-result c = omega (arith, c.loop-p.invariant.5)
 
 pub returns-in-NoNumber : goal.returns-in-NoNumber
 returns-in-NoNumber c =
-    let l = c.loop-p in turns.descend-torn l.frames l.n l.invariant.3 (turns.modifier _ c.loop-p-test.true c.if-this-lt31.false c.in-31.if-this-lt33-own.true) (sym c.read_uint.ensures ∙ ap uint_says c.in-NoNumber.is)
+    let l = c.loop-p in turns.descend-torn l.frames l.n l.invariant.3 (turns.modifier _ c.loop-p-test.true c.in-31.if-this-lt31-own.false c.in-31.if-this-lt33-own.true) (sym c.read_uint.ensures ∙ ap uint_says c.in-NoNumber.is)
 
 pub loop-p-smaller : goal.loop-p-smaller
 loop-p-smaller c = omega (arith, c.loop-p-test.true, turns.read-ahead _ c.loop-p.p (sym c.read_uint.ensures ∙ ap uint_says c.in-Number.is))
@@ -66,15 +66,15 @@ loop-p-preserved c =
     let l = c.loop-p in
     let u = (sym c.read_uint.ensures ∙ ap uint_says c.in-Number.is) in
     let on = turns.read-ahead _ l.p u in
-    (omega (arith, l.invariant.0, on), l.invariant.1, l.invariant.2, turns.descend-modifier l.frames l.n l.invariant.3 (turns.modifier _ c.loop-p-test.true c.if-this-lt31.false c.in-31.if-this-lt33-own.true) u, omega (arith, l.invariant.4, on), omega (arith, l.invariant.5, on))
+    (omega (arith, l.invariant.0, on), l.invariant.1, l.invariant.2, turns.descend-modifier l.frames l.n l.invariant.3 (turns.modifier _ c.loop-p-test.true c.in-31.if-this-lt31-own.false c.in-31.if-this-lt33-own.true) u, omega (arith, l.invariant.4, on), omega (arith, l.invariant.5, on))
 
 pub returns-in_default : goal.returns-in_default
 returns-in_default c =
-    let l = c.loop-p in spec.arrived l.invariant.4 l.invariant.0 l.invariant.1 l.invariant.3 (spec.other (turns.other_tag _ _ c.in_default-1.rest.0.1 c.in_default-1.rest.1 (inl c.in_default.if-this-lt31-own.true)))
+    let l = c.loop-p in spec.arrived l.invariant.4 l.invariant.0 l.invariant.1 l.invariant.3 (spec.other (turns.other_tag _ _ c.in_default.in_default-own.rest.0.1 c.in_default.in_default-own.rest.1 (inl c.in_default.if-this-lt31-own.true)))
 
 pub returns-in_default-2 : goal.returns-in_default-2
 returns-in_default-2 c =
-    let l = c.loop-p in spec.arrived l.invariant.4 l.invariant.0 l.invariant.1 l.invariant.3 (spec.other (turns.other_tag _ _ c.in_default-1.rest.0.1 c.in_default-1.rest.1 (inr c.in_default.if-this-lt33-own.false)))
+    let l = c.loop-p in spec.arrived l.invariant.4 l.invariant.0 l.invariant.1 l.invariant.3 (spec.other (turns.other_tag _ _ c.in_default.in_default-own.rest.0.1 c.in_default.in_default-own.rest.1 (inr c.in_default.if-this-lt33-own.false)))
 
 pub returns : goal.returns
 returns c =

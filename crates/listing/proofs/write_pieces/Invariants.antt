@@ -5,7 +5,7 @@ use Rattle.answers.specs.Known.{Knows}
 use Rattle.listing.proofs.write_pieces.Given as goal
 
 abbrev pub invariant-loop-turns : goal.invariant-loop-turns
-invariant-loop-turns l = Knows (view_in l.tables l.layout l.strings l.blob) l.blob l.known × (length l.space ≡ length l.initial.space)
+invariant-loop-turns g l = Knows (view_in l.tables l.layout l.strings l.blob) l.blob l.known × (length l.space ≡ length l.initial.space)
 
 abbrev pub decreases-loop-turns : goal.decreases-loop-turns
-decreases-loop-turns l = l.turns
+decreases-loop-turns g l = l.turns

@@ -6,7 +6,9 @@ use Rattle.names.proofs.Pass.{pass-start, pass-out, pass-less, pass-in, pass-ful
 use Rattle.names.proofs.put_front.Goals as goal
 
 pub memory_at-memory-requires : goal.memory_at-memory-requires
-memory_at-memory-requires c = asks-memory c.requires.laid
+memory_at-memory-requires c =
+    let held = asks-memory c.requires.laid in
+    record { j_lt_held_count = held.0; j_in_bounds = held.1 }
 
 pub loop-i-init : goal.loop-i-init
 loop-i-init c = (pass-start _ _ _ _ _ _ _ _ c.count_rows-i.ensures c.requires.floor_le_end.0, λ z h. absurd (omega (arith, c.count_rows-i.ensures)))

@@ -1,3 +1,4 @@
+use borrow.Author.Rules.{rules}
 use mathlib.Core.Path.{refl, sym, ap, ◌∙◌}
 use Prim.Native.Nat.{◌-◌}
 use native.Mathlib.Omega.{arith}
@@ -98,4 +99,4 @@ pub shape_of-layout : goal.shape_of-layout
 shape_of-layout c = simp length-set (c.loop-c.invariant.1.long ∙ sym (ap length c.requires.layout_value))
 
 pub returns : goal.returns
-returns c = (whole _ _ _ c.loop-c.invariant.1 c.loop-c.invariant.0 c.loop-c-test.false refl c.flag.ensures c.flag-2.ensures, l.before.before.before.before.before.before.before.well-formed.1.1.1.1.1.0.1.1.0.1)
+returns c = (whole _ _ _ c.loop-c.invariant.1 c.loop-c.invariant.0 c.loop-c-test.false refl c.flag.ensures c.flag-2.ensures, search rules)

@@ -78,19 +78,19 @@ over_class-returns-in-NoNumber t c =
     forms.class-unread e T a.sig.now a.pos (sym (ap uint_says c.in-NoNumber.is) ∙ c.read_uint.ensures)
 
 pub over_few-over_level-requires : goal.over_few-over_level-requires
-over_few-over_level-requires t c = (omega (arith, c.decreases), (c.requires.0, (c.requires.1.0, c.requires.1.1, omega arith)))
+over_few-over_level-requires t c = (omega (arith, c.decreases), (c.requires.laid, (c.requires.left_nonzero.0, c.requires.left_nonzero.1, omega arith)))
 
 pub over_few-returns : goal.over_few-returns
 over_few-returns t c = c.over_level.ensures
 
 pub over_inner-over_many-requires : goal.over_inner-over_many-requires
-over_inner-over_many-requires t c = (omega (arith, c.decreases), (c.requires.0, (c.requires.1.0, c.requires.1.1 c.if-full.true)))
+over_inner-over_many-requires t c = (omega (arith, c.decreases), (c.requires.laid, (c.requires.left_nonzero.0, c.requires.left_nonzero.1 c.if-full.true)))
 
 pub over_inner-returns-then-full : goal.over_inner-returns-then-full
 over_inner-returns-then-full t c = c.over_many.ensures
 
 pub over_inner-over_next-requires : goal.over_inner-over_next-requires
-over_inner-over_next-requires t c = (omega (arith, c.decreases), c.requires.0)
+over_inner-over_next-requires t c = (omega (arith, c.decreases), c.requires.laid)
 
 pub over_inner-returns : goal.over_inner-returns
 over_inner-returns t c = c.over_next.ensures
@@ -100,7 +100,7 @@ over_level-loop-p-init t c =
     let a = c.args in
     let e = env_of a.tables.now a.layout.now a.strings.now a.blob.now a.owners.now in
     let T = type e a.left in
-    let level = type-level e a.left c.requires.1.0 in
+    let level = type-level e a.left c.requires.left_nonzero.0 in
     (omega arith, zero-le, refl, refl, λ r h. levels.level-start T level _ h)
 
 pub over_level-descend-requires : goal.over_level-descend-requires
@@ -114,16 +114,16 @@ over_level-returns-then-have-m t c =
     let a = c.args in
     let e = env_of a.tables.now a.layout.now a.strings.now a.blob.now a.owners.now in
     let T = type e a.left in
-    let level = type-level e a.left c.requires.1.0 in
+    let level = type-level e a.left c.requires.left_nonzero.0 in
     let came = turns.came c.descend.ensures c.in-At.is in
     c.loop-p.invariant.4 _ (levels.level-short T level came.moved c.wide-m.ensures c.if-have-m.true)
 
 pub over_level-over_inner-requires : goal.over_level-over_inner-requires
 over_level-over_inner-requires t c =
     let came = turns.came c.descend.ensures c.in-At.is in
-    let ahead = turns.came-on c.descend.ensures c.in-At.is c.requires.1.1 c.loop-p.invariant.0
-    (omega (arith, c.descend.auto.frames, c.loop-p.invariant.2, c.requires.1.2)) in
-    (omega (arith, c.decreases, ahead, c.loop-p.invariant.0, c.loop-p-test.true), (c.requires.0, (c.requires.1.0, turns.halts-full came.halts)))
+    let ahead = turns.came-on c.descend.ensures c.in-At.is c.requires.left_nonzero.1 c.loop-p.invariant.0
+    (omega (arith, c.descend.auto.frames, c.loop-p.invariant.2, c.requires.left_nonzero.2)) in
+    (omega (arith, c.decreases, ahead, c.loop-p.invariant.0, c.loop-p-test.true), (c.requires.laid, (c.requires.left_nonzero.0, turns.halts-full came.halts)))
 
 pub over_level-ascend-requires : goal.over_level-ascend-requires
 over_level-ascend-requires t c =
@@ -146,7 +146,7 @@ over_level-loop-p-preserved t c =
     let a = c.args in
     let e = env_of a.tables.now a.layout.now a.strings.now a.blob.now a.owners.now in
     let T = type e a.left in
-    let level = type-level e a.left c.requires.1.0 in
+    let level = type-level e a.left c.requires.left_nonzero.0 in
     let came = turns.came c.descend.ensures c.in-At.is in
     let went = passes_over c.over_inner.ensures c.in-Over.is in
     let on = forms.over-beyond a.sig.now _ e a.left went in
@@ -168,7 +168,7 @@ over_level-returns-in-Over-ascend t c =
     let a = c.args in
     let e = env_of a.tables.now a.layout.now a.strings.now a.blob.now a.owners.now in
     let T = type e a.left in
-    let level = type-level e a.left c.requires.1.0 in
+    let level = type-level e a.left c.requires.left_nonzero.0 in
     let came = turns.came c.descend.ensures c.in-At.is in
     let went = passes_over c.over_inner.ensures c.in-Over.is in
     c.loop-p.invariant.4 _ (levels.level-over T level came.moved c.wide-m.ensures c.if-have-m.false went c.ascend.ensures c.in-Over-ascend.is)
@@ -181,7 +181,7 @@ over_level-returns-in-Broken-ascend t c =
     let a = c.args in
     let e = env_of a.tables.now a.layout.now a.strings.now a.blob.now a.owners.now in
     let T = type e a.left in
-    let level = type-level e a.left c.requires.1.0 in
+    let level = type-level e a.left c.requires.left_nonzero.0 in
     let came = turns.came c.descend.ensures c.in-At.is in
     let went = passes_over c.over_inner.ensures c.in-Over.is in
     c.loop-p.invariant.4 _ (levels.level-broken T level came.moved c.wide-m.ensures c.if-have-m.false went c.ascend.ensures c.in-Broken-ascend.is)
@@ -194,7 +194,7 @@ over_level-returns-in-Failed t c =
     let a = c.args in
     let e = env_of a.tables.now a.layout.now a.strings.now a.blob.now a.owners.now in
     let T = type e a.left in
-    let level = type-level e a.left c.requires.1.0 in
+    let level = type-level e a.left c.requires.left_nonzero.0 in
     let came = turns.came c.descend.ensures c.in-At.is in
     c.loop-p.invariant.4 _ (levels.level-failed T level came.moved c.wide-m.ensures c.if-have-m.false (passes-failed c.over_inner.ensures c.in-Failed.is))
 
@@ -206,7 +206,7 @@ over_level-returns-in-Spent t c =
     let a = c.args in
     let e = env_of a.tables.now a.layout.now a.strings.now a.blob.now a.owners.now in
     let T = type e a.left in
-    let level = type-level e a.left c.requires.1.0 in
+    let level = type-level e a.left c.requires.left_nonzero.0 in
     let came = turns.came c.descend.ensures c.in-At.is in
     c.loop-p.invariant.4 _ (levels.level-spent T level came.moved c.wide-m.ensures c.if-have-m.false (passes-spent c.over_inner.ensures c.in-Spent.is))
 
@@ -218,7 +218,7 @@ over_level-returns-then-have-m-2 t c =
     let a = c.args in
     let e = env_of a.tables.now a.layout.now a.strings.now a.blob.now a.owners.now in
     let T = type e a.left in
-    let level = type-level e a.left c.requires.1.0 in
+    let level = type-level e a.left c.requires.left_nonzero.0 in
     c.loop-p.invariant.4 _ (levels.level-torn-spent T level c.descend.ensures c.in-Broken.is c.wide-m-in-Broken.ensures c.if-have-m-2.true)
 
 pub over_level-shape_of-slots-in-Broken : goal.over_level-shape_of-slots-in-Broken
@@ -229,7 +229,7 @@ over_level-returns-in-Broken t c =
     let a = c.args in
     let e = env_of a.tables.now a.layout.now a.strings.now a.blob.now a.owners.now in
     let T = type e a.left in
-    let level = type-level e a.left c.requires.1.0 in
+    let level = type-level e a.left c.requires.left_nonzero.0 in
     c.loop-p.invariant.4 _ (levels.level-torn T level c.descend.ensures c.in-Broken.is c.wide-m-in-Broken.ensures c.if-have-m-2.false)
 
 pub over_level-shape_of-slots : goal.over_level-shape_of-slots
@@ -240,12 +240,12 @@ over_level-returns t c =
     let a = c.args in
     let e = env_of a.tables.now a.layout.now a.strings.now a.blob.now a.owners.now in
     let T = type e a.left in
-    let level = type-level e a.left c.requires.1.0 in
+    let level = type-level e a.left c.requires.left_nonzero.0 in
     let past = passes-failed (forms.type-past e a.left a.sig.now c.loop-p.p c.loop-p.have c.loop-p-test.false) refl in
     c.loop-p.invariant.4 _ (levels.level-past T level a.sig.now c.loop-p.p (stack c.loop-p.slots c.loop-p.n) past)
 
 pub over_many-over_level-requires : goal.over_many-over_level-requires
-over_many-over_level-requires t c = (omega (arith, c.decreases), (c.requires.0, (c.requires.1.0, c.requires.1.1, omega arith)))
+over_many-over_level-requires t c = (omega (arith, c.decreases), (c.requires.laid, (c.requires.left_nonzero.0, c.requires.left_nonzero.1, omega arith)))
 
 pub over_many-returns : goal.over_many-returns
 over_many-returns t c = c.over_level.ensures
@@ -488,7 +488,7 @@ over_type-loop-p-preserved-then-tag-lt17 t c =
     let a = c.args in
     let e = env_of a.tables.now a.layout.now a.strings.now a.blob.now a.owners.now in
     let h = c.loop-p in
-    (omega (arith, h.invariant.0), omega (arith, h.invariant.1), λ r k. h.invariant.2 r (forms.type-deeper e a.sig.now c.loop-p-test.true c.if-deep-eq0.false c.if-have-eq0.false c.if-tag-lt15.false c.in-15.if-tag-lt17-own.true k))
+    (omega (arith, h.invariant.0), omega (arith, h.invariant.1), λ r k. h.invariant.2 r (forms.type-deeper e a.sig.now c.loop-p-test.true c.if-deep-eq0.false c.if-have-eq0.false c.in-15.if-tag-lt15-own.false c.in-15.if-tag-lt17-own.true k))
 
 pub over_type-over_class-requires : goal.over_type-over_class-requires
 over_type-over_class-requires t c = (omega (arith, c.decreases, c.loop-p.invariant.0, c.loop-p.invariant.1, c.loop-p-test.true, c.if-deep-eq0.false), c.requires)
@@ -498,16 +498,16 @@ over_type-returns-in-17 t c =
     let a = c.args in
     let e = env_of a.tables.now a.layout.now a.strings.now a.blob.now a.owners.now in
     let h = c.loop-p in
-    h.invariant.2 _ (forms.type-class e a.sig.now c.loop-p-test.true c.if-deep-eq0.false c.if-have-eq0.false c.if-tag-lt17.false c.in-17.if-tag-lt19-own.true c.over_class.ensures)
+    h.invariant.2 _ (forms.type-class e a.sig.now c.loop-p-test.true c.if-deep-eq0.false c.if-have-eq0.false c.in-17.if-tag-lt17-own.false c.in-17.if-tag-lt19-own.true c.over_class.ensures)
 
 pub over_type-returns-in-NoNumber : goal.over_type-returns-in-NoNumber
 over_type-returns-in-NoNumber t c =
     let a = c.args in
     let e = env_of a.tables.now a.layout.now a.strings.now a.blob.now a.owners.now in
     let h = c.loop-p in
-    let no = c.in_default-1.rest in
+    let no = c.in-31.in_default-own.rest in
     let no-1E : get_or a.sig.now h.p 0 ≡ 0x1E → ⊥ = λ z. no.0.0.0.1 (inr z) in
-    let lo : 0x1F ≤ get_or a.sig.now h.p 0 = omega (arith, c.if-tag-lt29.false, no.0.0.0.0.1, no-1E) in
+    let lo : 0x1F ≤ get_or a.sig.now h.p 0 = omega (arith, c.in-31.if-tag-lt29-own.false, no.0.0.0.0.1, no-1E) in
     h.invariant.2 _ (forms.type-torn e a.sig.now c.loop-p-test.true c.if-deep-eq0.false c.if-have-eq0.false lo c.in-31.if-tag-lt33-own.true (sym (ap uint_says c.in-NoNumber.is) ∙ c.read_uint.ensures))
 
 pub over_type-loop-p-smaller : goal.over_type-loop-p-smaller
@@ -523,9 +523,9 @@ over_type-loop-p-preserved t c =
     let a = c.args in
     let e = env_of a.tables.now a.layout.now a.strings.now a.blob.now a.owners.now in
     let h = c.loop-p in
-    let no = c.in_default-1.rest in
+    let no = c.in-31.in_default-own.rest in
     let no-1E : get_or a.sig.now h.p 0 ≡ 0x1E → ⊥ = λ z. no.0.0.0.1 (inr z) in
-    let lo : 0x1F ≤ get_or a.sig.now h.p 0 = omega (arith, c.if-tag-lt29.false, no.0.0.0.0.1, no-1E) in
+    let lo : 0x1F ≤ get_or a.sig.now h.p 0 = omega (arith, c.in-31.if-tag-lt29-own.false, no.0.0.0.0.1, no-1E) in
     let x = sym (ap uint_says c.in-Number.is) ∙ c.read_uint.ensures in
     (omega (arith, h.invariant.0, forms.uint-ahead a.sig.now (h.p + 1) x), h.invariant.1, λ r k. h.invariant.2 r (forms.type-modified e a.sig.now c.loop-p-test.true c.if-deep-eq0.false c.if-have-eq0.false lo c.in-31.if-tag-lt33-own.true x k))
 
@@ -534,7 +534,7 @@ over_type-returns-in_default t c =
     let a = c.args in
     let e = env_of a.tables.now a.layout.now a.strings.now a.blob.now a.owners.now in
     let h = c.loop-p in
-    let no = c.in_default-1.rest in
+    let no = c.in_default.in_default-own.rest in
     let tag = get_or a.sig.now h.p 0 in
     let x = alone-tag tag (inl c.in_default.if-tag-lt15-own.true) no.0.0.0.1 no.0.0.1 no.0.1 no.1 no.0.0.0.0.1 (λ z. absurd (omega (arith, z, c.in_default.if-tag-lt15-own.true))) (λ z. absurd (omega (arith, z, c.in_default.if-tag-lt15-own.true))) in
     h.invariant.2 _ (forms.type-unknown e a.sig.now c.loop-p-test.true c.if-deep-eq0.false c.if-have-eq0.false x (sym c.is_simple.ensures ∙ c.if-is_simple.false))
@@ -544,9 +544,9 @@ over_type-returns-in_default-2 t c =
     let a = c.args in
     let e = env_of a.tables.now a.layout.now a.strings.now a.blob.now a.owners.now in
     let h = c.loop-p in
-    let no = c.in_default-1.rest in
+    let no = c.in_default.in_default-own.rest in
     let tag = get_or a.sig.now h.p 0 in
-    let x = alone-tag tag (inr c.if-tag-lt19.false) no.0.0.0.1 no.0.0.1 no.0.1 no.1 no.0.0.0.0.1 (λ z. absurd (omega (arith, z, c.in_default.if-tag-lt29-own.true))) (λ z. absurd (omega (arith, z, c.in_default.if-tag-lt29-own.true))) in
+    let x = alone-tag tag (inr c.in_default.if-tag-lt19-own.false) no.0.0.0.1 no.0.0.1 no.0.1 no.1 no.0.0.0.0.1 (λ z. absurd (omega (arith, z, c.in_default.if-tag-lt29-own.true))) (λ z. absurd (omega (arith, z, c.in_default.if-tag-lt29-own.true))) in
     h.invariant.2 _ (forms.type-unknown e a.sig.now c.loop-p-test.true c.if-deep-eq0.false c.if-have-eq0.false x (sym c.is_simple.ensures ∙ c.if-is_simple.false))
 
 pub over_type-returns-in_default-3 : goal.over_type-returns-in_default-3
@@ -554,9 +554,9 @@ over_type-returns-in_default-3 t c =
     let a = c.args in
     let e = env_of a.tables.now a.layout.now a.strings.now a.blob.now a.owners.now in
     let h = c.loop-p in
-    let no = c.in_default-1.rest in
+    let no = c.in_default.in_default-own.rest in
     let tag = get_or a.sig.now h.p 0 in
-    let x = alone-tag tag (inr c.if-tag-lt19.false) no.0.0.0.1 no.0.0.1 no.0.1 no.1 no.0.0.0.0.1 (λ z. absurd (omega (arith, z, c.in_default.if-tag-lt33-own.false))) (λ z. absurd (omega (arith, z, c.in_default.if-tag-lt33-own.false))) in
+    let x = alone-tag tag (inr c.in_default.if-tag-lt19-own.false) no.0.0.0.1 no.0.0.1 no.0.1 no.1 no.0.0.0.0.1 (λ z. absurd (omega (arith, z, c.in_default.if-tag-lt33-own.false))) (λ z. absurd (omega (arith, z, c.in_default.if-tag-lt33-own.false))) in
     h.invariant.2 _ (forms.type-unknown e a.sig.now c.loop-p-test.true c.if-deep-eq0.false c.if-have-eq0.false x (sym c.is_simple.ensures ∙ c.if-is_simple.false))
 
 pub over_type-returns : goal.over_type-returns

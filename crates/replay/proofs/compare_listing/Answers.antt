@@ -1,13 +1,13 @@
 use Rattle.replay.proofs.compare_listing.Goals as goal
 
 pub loop-turns-init : goal.loop-turns-init
-loop-turns-init c = tt
+loop-turns-init g c = tt
 
 pub returns-then-left-eq0 : goal.returns-then-left-eq0
-returns-then-left-eq0 c = tt
+returns-then-left-eq0 g c = tt
 
 pub loop-turns-preserved : goal.loop-turns-preserved
-loop-turns-preserved c = tt
+loop-turns-preserved g c = tt
 
 pub returns : goal.returns
-returns c = tt
+returns g c = tt

@@ -19,6 +19,7 @@ use Rattle.signatures.proofs.Forms as forms
 use Rattle.frames.proofs.Turns as turns
 use Rattle.frames.proofs.Rendering as rendering
 use Rattle.signatures.proofs.+sig.Goals as goal
+use Rattle.signatures.proofs.+sig.Goals.{sig_form-in_default-via-then-tag-lt15, sig_form-in_default-via-else-tag-lt15+else-tag-lt17+else-tag-lt19}
 
 pub parse_method_def_signature-sig_type-requires : goal.parse_method_def_signature-sig_type-requires
 parse_method_def_signature-sig_type-requires t c =
@@ -110,7 +111,7 @@ sig_array-returns-in-Failed t c =
     forms.array-failed T s a.pos (rendered-failed c.sig_type.ensures c.in-Failed.is)
 
 pub sig_class-type_name-requires : goal.sig_class-type_name-requires
-sig_class-type_name-requires t c = (omega (arith, c.decreases, start.well-formed.1.1.1.1.0.1), c.requires)
+sig_class-type_name-requires t c = (omega (arith, c.decreases, c.well_formed.1.1.1.1.0.1), c.requires)
 
 pub sig_class-returns-in-Next : goal.sig_class-returns-in-Next
 sig_class-returns-in-Next t c =
@@ -137,7 +138,7 @@ sig_class-returns-in-NoNumber t c =
     forms.class-unread e T s a.pos _ (sym (ap uint_says c.in-NoNumber.is) ∙ c.read_uint.ensures)
 
 pub sig_few-sig_level-requires : goal.sig_few-sig_level-requires
-sig_few-sig_level-requires t c = (omega (arith, c.decreases), (c.requires.0, (c.requires.1.0, c.requires.1.1, omega arith)))
+sig_few-sig_level-requires t c = (omega (arith, c.decreases), (c.requires.laid, (c.requires.left_nonzero.0, c.requires.left_nonzero.1, omega arith)))
 
 pub sig_few-shape_of-buf : goal.sig_few-shape_of-buf
 sig_few-shape_of-buf t c = c.sig_level.auto.buf
@@ -147,29 +148,29 @@ sig_few-returns t c = c.sig_level.ensures
 
 pub sig_form-sig_array-requires : goal.sig_form-sig_array-requires
 sig_form-sig_array-requires t c =
-    let r = c.requires.1 in
-    (omega (arith, c.decreases, r.0, r.2), c.requires.0)
+    let r = c.requires.left_nonzero in
+    (omega (arith, c.decreases, r.0, r.2), c.requires.laid)
 
 pub sig_form-parse_method_def_signature-requires : goal.sig_form-parse_method_def_signature-requires
 sig_form-parse_method_def_signature-requires t c =
-    let r = c.requires.1 in
-    (omega (arith, c.decreases, r.0, r.2), c.requires.0)
+    let r = c.requires.left_nonzero in
+    (omega (arith, c.decreases, r.0, r.2), c.requires.laid)
 
 pub sig_form-sig_around-requires : goal.sig_form-sig_around-requires
 sig_form-sig_around-requires t c =
-    let r = c.requires.1 in
-    (omega (arith, c.decreases, r.0, r.2), c.requires.0)
+    let r = c.requires.left_nonzero in
+    (omega (arith, c.decreases, r.0, r.2), c.requires.laid)
 
 pub sig_form-sig_class-requires : goal.sig_form-sig_class-requires
 sig_form-sig_class-requires t c =
-    let r = c.requires.1 in
-    (omega (arith, c.decreases, r.0, r.2), c.requires.0)
+    let r = c.requires.left_nonzero in
+    (omega (arith, c.decreases, r.0, r.2), c.requires.laid)
 
 pub sig_form-returns-in-19 : goal.sig_form-returns-in-19
 sig_form-returns-in-19 t c =
     let a = c.args in
     let e = env_of a.tables.now a.layout.now a.strings.now a.blob.now a.owners.now in
-    let r = c.requires.1 in
+    let r = c.requires.left_nonzero in
     forms.type-form e a.left a.sig.now a.pos (get_or a.sig.now a.pos 0) r.0 r.2 refl (forms.generic-form _ _ _ _ _ _ _ _ _ _ _ c.in-19.is (c.sig_var.ensures a.blob.now))
 
 pub sig_form-returns-in-20 : goal.sig_form-returns-in-20
@@ -177,7 +178,7 @@ unfolding form look
 sig_form-returns-in-20 t c =
     let a = c.args in
     let e = env_of a.tables.now a.layout.now a.strings.now a.blob.now a.owners.now in
-    let r = c.requires.1 in
+    let r = c.requires.left_nonzero in
     forms.type-form e a.left a.sig.now a.pos 0x14 r.0 r.2 (sym c.in-20.is) c.sig_array.ensures
 
 pub sig_form-returns-in-27 : goal.sig_form-returns-in-27
@@ -185,41 +186,44 @@ unfolding form look
 sig_form-returns-in-27 t c =
     let a = c.args in
     let e = env_of a.tables.now a.layout.now a.strings.now a.blob.now a.owners.now in
-    let r = c.requires.1 in
+    let r = c.requires.left_nonzero in
     forms.type-form e a.left a.sig.now a.pos 0x1B r.0 r.2 (sym c.in-27.is) c.parse_method_def_signature.ensures
 
 pub sig_form-returns-in-15 : goal.sig_form-returns-in-15
 sig_form-returns-in-15 t c =
     let a = c.args in
     let e = env_of a.tables.now a.layout.now a.strings.now a.blob.now a.owners.now in
-    let r = c.requires.1 in
-    forms.type-form e a.left a.sig.now a.pos (get_or a.sig.now a.pos 0) r.0 r.2 refl (forms.around-form e _ _ _ _ _ c.if-tag-lt15.false c.in-15.if-tag-lt17-own.true c.sig_around.ensures)
+    let r = c.requires.left_nonzero in
+    forms.type-form e a.left a.sig.now a.pos (get_or a.sig.now a.pos 0) r.0 r.2 refl (forms.around-form e _ _ _ _ _ c.in-15.if-tag-lt15-own.false c.in-15.if-tag-lt17-own.true c.sig_around.ensures)
 
 pub sig_form-returns-in-17 : goal.sig_form-returns-in-17
 sig_form-returns-in-17 t c =
     let a = c.args in
     let e = env_of a.tables.now a.layout.now a.strings.now a.blob.now a.owners.now in
-    let r = c.requires.1 in
-    forms.type-form e a.left a.sig.now a.pos (get_or a.sig.now a.pos 0) r.0 r.2 refl (forms.class-form e _ _ _ _ _ c.if-tag-lt17.false c.in-17.if-tag-lt19-own.true c.sig_class.ensures)
+    let r = c.requires.left_nonzero in
+    forms.type-form e a.left a.sig.now a.pos (get_or a.sig.now a.pos 0) r.0 r.2 refl (forms.class-form e _ _ _ _ _ c.in-17.if-tag-lt17-own.false c.in-17.if-tag-lt19-own.true c.sig_class.ensures)
 
 pub sig_form-returns-in_default : goal.sig_form-returns-in_default
 sig_form-returns-in_default t c =
     let a = c.args in
     let e = env_of a.tables.now a.layout.now a.strings.now a.blob.now a.owners.now in
-    let r = c.requires.1 in
+    let r = c.requires.left_nonzero in
     let no = c.in_default-1.rest in
-    let out : ((get_or a.sig.now a.pos 0) < 0x0F) ⊎ (0x13 ≤ (get_or a.sig.now a.pos 0)) = ⊎_elim (λ w. inl w.taken) (λ w. inr w.2.left) c.in_default.branch in
+    let out : (get_or a.sig.now a.pos 0 < 0x0F) ⊎ (0x13 ≤ get_or a.sig.now a.pos 0) = elim c.in_default.branch [
+      | sig_form-in_default-via-then-tag-lt15 w ↦ inl (omega arith)
+      | sig_form-in_default-via-else-tag-lt15+else-tag-lt17+else-tag-lt19 w ↦ inr (omega arith)
+    ] in
     let x = forms.alone-tag (get_or a.sig.now a.pos 0) out no.0.0.1 no.0.1 r.3 no.1 (r.1.no-vector r.2) (r.1.no-required r.2) (r.1.no-optional r.2) in
     forms.type-form e a.left a.sig.now a.pos _ r.0 r.2 refl (forms.alone-form e _ _ _ x _ _ c.sig_simple.ensures)
 
 pub sig_inner-sig_many-requires : goal.sig_inner-sig_many-requires
-sig_inner-sig_many-requires t c = (omega (arith, c.decreases), (c.requires.0, (c.requires.1.0, c.requires.1.1 c.if-full.true)))
+sig_inner-sig_many-requires t c = (omega (arith, c.decreases), (c.requires.laid, (c.requires.left_nonzero.0, c.requires.left_nonzero.1 c.if-full.true)))
 
 pub sig_inner-returns-then-full : goal.sig_inner-returns-then-full
 sig_inner-returns-then-full t c = c.sig_many.ensures
 
 pub sig_inner-sig_type-requires : goal.sig_inner-sig_type-requires
-sig_inner-sig_type-requires t c = (omega (arith, c.decreases), c.requires.0)
+sig_inner-sig_type-requires t c = (omega (arith, c.decreases), c.requires.laid)
 
 pub sig_inner-returns : goal.sig_inner-returns
 sig_inner-returns t c = c.sig_type.ensures
@@ -228,7 +232,7 @@ pub sig_level-loop-p-init : goal.sig_level-loop-p-init
 sig_level-loop-p-init t c =
     let a = c.args in
     let e = env_of a.tables.now a.layout.now a.strings.now a.blob.now a.owners.now in
-    (omega arith, zero-le, refl, refl, λ b' r h. rendering.level-start (type e a.left) (forms.type-level e a.left c.requires.1.0) _ h)
+    (omega arith, zero-le, refl, refl, λ b' r h. rendering.level-start (type e a.left) (forms.type-level e a.left c.requires.left_nonzero.0) _ h)
 
 pub sig_level-descend-requires : goal.sig_level-descend-requires
 sig_level-descend-requires t c = c.loop-p.invariant.1
@@ -237,9 +241,9 @@ pub sig_level-sig_inner-requires : goal.sig_level-sig_inner-requires
 sig_level-sig_inner-requires t c =
     let came = turns.came c.descend.ensures c.in-At.is in
     let room = c.descend.auto.frames in
-    let ahead = turns.came-on c.descend.ensures c.in-At.is c.requires.1.1 c.loop-p.invariant.0
-    (omega (arith, room, c.loop-p.invariant.2, c.requires.1.2)) in
-    (omega (arith, c.decreases, ahead, c.loop-p.invariant.0, c.loop-p-test.true), (c.requires.0, (c.requires.1.0, turns.halts-full came.halts)))
+    let ahead = turns.came-on c.descend.ensures c.in-At.is c.requires.left_nonzero.1 c.loop-p.invariant.0
+    (omega (arith, room, c.loop-p.invariant.2, c.requires.left_nonzero.2)) in
+    (omega (arith, c.decreases, ahead, c.loop-p.invariant.0, c.loop-p-test.true), (c.requires.laid, (c.requires.left_nonzero.0, turns.halts-full came.halts)))
 
 pub sig_level-ascend-requires : goal.sig_level-ascend-requires
 sig_level-ascend-requires t c =
@@ -251,7 +255,7 @@ pub sig_level-loop-p-smaller : goal.sig_level-loop-p-smaller
 sig_level-loop-p-smaller t c =
     let a = c.args in
     let e = env_of a.tables.now a.layout.now a.strings.now a.blob.now a.owners.now in
-    let level = forms.type-level e a.left c.requires.1.0 in
+    let level = forms.type-level e a.left c.requires.left_nonzero.0 in
     let came = turns.came c.descend.ensures c.in-At.is in
     let text = rendered-done c.sig_inner.ensures c.in-Done.is in
     let on = forms.type-beyond e a.left a.sig.now _ text in
@@ -262,7 +266,7 @@ pub sig_level-loop-p-preserved : goal.sig_level-loop-p-preserved
 sig_level-loop-p-preserved t c =
     let a = c.args in
     let e = env_of a.tables.now a.layout.now a.strings.now a.blob.now a.owners.now in
-    let level = forms.type-level e a.left c.requires.1.0 in
+    let level = forms.type-level e a.left c.requires.left_nonzero.0 in
     let came = turns.came c.descend.ensures c.in-At.is in
     let text = rendered-done c.sig_inner.ensures c.in-Done.is in
     let more = c.ascend.ensures in
@@ -286,7 +290,7 @@ pub sig_level-returns-in-Over : goal.sig_level-returns-in-Over
 sig_level-returns-in-Over t c =
     let a = c.args in
     let e = env_of a.tables.now a.layout.now a.strings.now a.blob.now a.owners.now in
-    let level = forms.type-level e a.left c.requires.1.0 in
+    let level = forms.type-level e a.left c.requires.left_nonzero.0 in
     let came = turns.came c.descend.ensures c.in-At.is in
     let text = rendered-done c.sig_inner.ensures c.in-Done.is in
     c.loop-p.invariant.4 _ _ (rendering.level-over (type e a.left) level came.moved text c.ascend.ensures c.in-Over.is)
@@ -301,7 +305,7 @@ pub sig_level-returns-in-Broken-ascend : goal.sig_level-returns-in-Broken-ascend
 sig_level-returns-in-Broken-ascend t c =
     let a = c.args in
     let e = env_of a.tables.now a.layout.now a.strings.now a.blob.now a.owners.now in
-    let level = forms.type-level e a.left c.requires.1.0 in
+    let level = forms.type-level e a.left c.requires.left_nonzero.0 in
     let came = turns.came c.descend.ensures c.in-At.is in
     let text = rendered-done c.sig_inner.ensures c.in-Done.is in
     c.loop-p.invariant.4 _ _ (rendering.level-broken (type e a.left) level came.moved text c.ascend.ensures c.in-Broken-ascend.is)
@@ -316,7 +320,7 @@ pub sig_level-returns-in-Failed : goal.sig_level-returns-in-Failed
 sig_level-returns-in-Failed t c =
     let a = c.args in
     let e = env_of a.tables.now a.layout.now a.strings.now a.blob.now a.owners.now in
-    let level = forms.type-level e a.left c.requires.1.0 in
+    let level = forms.type-level e a.left c.requires.left_nonzero.0 in
     let came = turns.came c.descend.ensures c.in-At.is in
     let none = rendered-failed c.sig_inner.ensures c.in-Failed.is in
     c.loop-p.invariant.4 _ _ (rendering.level-failed (type e a.left) level came.moved none)
@@ -331,7 +335,7 @@ pub sig_level-returns-in-Broken : goal.sig_level-returns-in-Broken
 sig_level-returns-in-Broken t c =
     let a = c.args in
     let e = env_of a.tables.now a.layout.now a.strings.now a.blob.now a.owners.now in
-    let level = forms.type-level e a.left c.requires.1.0 in
+    let level = forms.type-level e a.left c.requires.left_nonzero.0 in
     c.loop-p.invariant.4 _ _ (rendering.level-torn (type e a.left) level c.descend.ensures c.in-Broken.is)
 
 pub sig_level-shape_of-buf : goal.sig_level-shape_of-buf
@@ -349,7 +353,7 @@ sig_level-returns t c =
     l.invariant.4 _ _ (rendering.level-past (type e a.left) a.sig.now l.p (stack l.slots l.n) past)
 
 pub sig_many-sig_level-requires : goal.sig_many-sig_level-requires
-sig_many-sig_level-requires t c = (omega (arith, c.decreases), (c.requires.0, (c.requires.1.0, c.requires.1.1, omega arith)))
+sig_many-sig_level-requires t c = (omega (arith, c.decreases), (c.requires.laid, (c.requires.left_nonzero.0, c.requires.left_nonzero.1, omega arith)))
 
 pub sig_many-shape_of-buf : goal.sig_many-shape_of-buf
 sig_many-shape_of-buf t c = c.sig_level.auto.buf
@@ -358,10 +362,10 @@ pub sig_many-returns : goal.sig_many-returns
 sig_many-returns t c = c.sig_level.ensures
 
 pub sig_parameters-loop-i-init : goal.sig_parameters-loop-i-init
-sig_parameters-loop-i-init t c = (omega arith, le_refl _, c.requires.1, refl, λ b' r h. rw sub-zero at h)
+sig_parameters-loop-i-init t c = (omega arith, le_refl _, c.requires.at_in_bounds, refl, λ b' r h. rw sub-zero at h)
 
 pub sig_parameters-sig_type-requires : goal.sig_parameters-sig_type-requires
-sig_parameters-sig_type-requires t c = (omega (arith, c.decreases, c.loop-i.invariant.1), c.requires.0)
+sig_parameters-sig_type-requires t c = (omega (arith, c.decreases, c.loop-i.invariant.1), c.requires.laid)
 
 pub sig_parameters-loop-i-preserved-in-Done : goal.sig_parameters-loop-i-preserved-in-Done
 sig_parameters-loop-i-preserved-in-Done t c =
@@ -409,10 +413,10 @@ pub sig_plain-sig_few-requires : goal.sig_plain-sig_few-requires
 sig_plain-sig_few-requires t c =
     let is = c.if-sig-pos-eq21.true in
     let lt = c.if-sig-pos.false in
-    (omega (arith, c.decreases), (c.requires.0, (c.requires.1.0, λ o. o.no-generic (omega (arith, lt)) is)))
+    (omega (arith, c.decreases), (c.requires.laid, (c.requires.left_nonzero.0, λ o. o.no-generic (omega (arith, lt)) is)))
 
 pub sig_plain-sig_form-requires : goal.sig_plain-sig_form-requires
-sig_plain-sig_form-requires t c = (omega (arith, c.decreases, c.if-sig-pos.false), (c.requires.0, (c.requires.1.0, c.requires.1.1, omega (arith, c.if-sig-pos.false), c.if-sig-pos-eq21.false)))
+sig_plain-sig_form-requires t c = (omega (arith, c.decreases, c.if-sig-pos.false), (c.requires.laid, (c.requires.left_nonzero.0, c.requires.left_nonzero.1, omega (arith, c.if-sig-pos.false), c.if-sig-pos-eq21.false)))
 
 pub sig_type-returns-then-sig-pos : goal.sig_type-returns-then-sig-pos
 sig_type-returns-then-sig-pos t c =
