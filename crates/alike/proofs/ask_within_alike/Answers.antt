@@ -10,6 +10,6 @@ returns c =
     let a = c.args in
     let second = c.ask_within-after.ensures in
     let spent = subst (λ (n : ℕ). Asked (view a.options a.u.now a.strings.now a.blob.now) a.question n a.other.now c.ask_within-after.new.buf
-            c.ask_within-after.result c.ask_within-after.new.allowance.left) c.requires.2 second
+    c.ask_within-after.result c.ask_within-after.new.allowance.left) c.requires.2 second
     in
     asked-alike c.requires.0 a.strings.now a.blob.now a.question _ _ _ _ _ _ _ _ _ c.requires.1 c.ask_within-before.ensures spent
