@@ -1,6 +1,6 @@
 /* dotnet_tables.h: the tables of .NET metadata (ECMA-335 Partition II), read from lent memory. C11.
  *
- * `rt staticlib dotnet_c` proves the library and writes target/staticlib/libdotnet_c.a for x86-64 Linux. A program is linked with
+ * `tools/make dotnet_c` proves the library and writes target/staticlib/libdotnet_c.a for x86-64 Linux. A program is linked with
  *
  *     cc -std=c11 -Iinclude program.c target/staticlib/libdotnet_c.a
  *

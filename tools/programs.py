@@ -1,7 +1,6 @@
-"""Tools that stand on a proved program. It is target/bin/NAME, and is made where it is not there or older than its sources. What the tools
-say on standard error, and the statuses that they exit with, are the same for all."""
+"""Tools that stand on a proved program (making.py). It is made where it is not there or older than its sources. What the tools say on
+standard error, and the statuses that they exit with, are the same for all."""
 
-import contextlib
 import os
 import re
 import shutil
@@ -9,13 +8,12 @@ import signal
 import subprocess
 import sys
 import tempfile
-import time
 
+import making
 from refusals import reason
 from sources import newer_source
 from streams import Unfit, absent_heaps, bundle, streams
 
-ROOT = os.path.dirname(os.path.dirname(os.path.abspath(__file__)))
 STDIN = 0
 REFUSED, UNREAD, UNMADE, FAILED, UNWRITTEN = 1, 2, 3, 4, 5  # exit statuses
 STOPPED = 130  # by Ctrl-C
@@ -83,8 +81,8 @@ class Tool:
     """A tool of this folder, and the program that it stands on."""
 
     def __init__(self, name, program):
-        self.name, self.making = name, "rt check " + program
-        self.crate, self.program = program, os.path.join(ROOT, "target", "bin", program)
+        self.name, self.making = name, making.command(program)
+        self.crate, self.program = program, making.program(program)
 
     def say(self, text):
         print("tools/%s: %s" % (self.name, text), file=sys.stderr)
@@ -126,7 +124,7 @@ class Tool:
 
     def make_sure(self):
         """Makes the program where it is not there, or older than its sources."""
-        rt, newer = shutil.which("rt"), newer_source(ROOT, self.crate, self.program)
+        rt, newer = shutil.which("rt"), newer_source(making.ROOT, self.crate, self.program)
         if not os.path.exists(self.program):
             if not rt:
                 raise Ended(UNMADE, "there is no %s, and no rt on the path to make it (%s)" % (self.program, self.making))
@@ -140,13 +138,8 @@ class Tool:
                      % (newer, self.program, self.making))
 
     def make(self, failure):
-        began = time.time_ns()
-        made = subprocess.run(self.making.split(), cwd=ROOT, stdin=subprocess.DEVNULL, stdout=sys.stderr, check=False)
-        if made.returncode or not os.path.exists(self.program):
+        if not making.make(self.crate):
             raise Ended(UNMADE, "%s %s" % (self.making, failure))
-        # Where sources are as they were, rt leaves the file as it was; and a source that changes meanwhile is to be newer.
-        with contextlib.suppress(OSError):
-            os.utime(self.program, ns=(began, began))
 
     # The tool.
 

@@ -7,7 +7,13 @@ import sys
 
 HERE = os.path.dirname(os.path.abspath(__file__))
 ROOT = os.path.dirname(os.path.dirname(HERE))
-ARCHIVE = os.path.join(ROOT, "target", "staticlib", "libdotnet_c.a")
+
+sys.path.append(os.path.join(ROOT, "tools"))
+
+import making
+
+CRATE = "dotnet_c"
+ARCHIVE = making.archive(CRATE)
 OUT = os.path.join(ROOT, "target", "c")
 
 
@@ -34,9 +40,9 @@ def make_archive(archive, anew=False):
     if os.path.exists(archive) and not (anew and archive == ARCHIVE and shutil.which("rt")):
         return
     if archive != ARCHIVE or not shutil.which("rt"):
-        fail("there is no %s: rt staticlib dotnet_c makes it" % os.path.relpath(archive))
-    if subprocess.run(["rt", "staticlib", "dotnet_c"], cwd=ROOT, stdout=sys.stderr, check=False).returncode:
-        fail("rt staticlib dotnet_c made no archive")
+        fail("there is no %s: %s makes it" % (os.path.relpath(archive), making.command(CRATE)))
+    if not making.is_as_new(CRATE) and not making.make(CRATE):
+        fail("%s made no archive" % making.command(CRATE))
 
 
 def compiled(name, archive=ARCHIVE, folder=HERE, libraries=()):
