@@ -14,4 +14,4 @@ pub returns-in-ParamName : goal.returns-in-ParamName
 returns-in-ParamName c = over-is _ _ c.in-ParamName.is c.method_over-in-ParamName.ensures
 
 pub returns-in_default : goal.returns-in_default
-returns-in_default c = not-over _ _ c.in_default.in_default-own.keys5
+returns-in_default c = let no = c.in_default in not-over _ _ no.not-Base no.not-Returns no.not-ParamType no.not-ParamName
