@@ -33,8 +33,14 @@ returns-then-is_over c =
 pub fill_lines-requires : goal.fill_lines-requires
 fill_lines-requires c =
     let pre = c.requires in
-    let within = elim c.if-not-from.branch [
-      | then-not-from+else-is_over w ↦ over-here _ (pre.by_index _ _) w.is_over.ensures w.if-is_over.false
-      | else-not-from w ↦ pre.next_value w.if-not-from.false
-    ] in
-    record { laid = pre.laid; by_index = pre.by_index; knows = pre.knows; all_fit = pre.all_fit; next_value = within; at_in_bounds = pre.at_in_bounds }
+    record {
+      laid = pre.laid;
+      by_index = pre.by_index;
+      knows = pre.knows;
+      all_fit = pre.all_fit;
+      next_value = elim c.if-not-from.branch [
+        | then-not-from+else-is_over w ↦ over-here _ (pre.by_index _ _) w.is_over.ensures w.if-is_over.false
+        | else-not-from w ↦ pre.next_value w.if-not-from.false
+      ];
+      at_in_bounds = pre.at_in_bounds;
+    }

@@ -1,3 +1,4 @@
+use borrow.Enum.Refused.{opened}
 use mathlib.Core.Path.{◌≡◌, refl}
 use mathlib.Core.Bool.{false}
 use mathlib.Core.List.{List, [], ◌∷◌}
@@ -31,4 +32,4 @@ not_done ParamName h = refl
 not_done Done h = absurd (miss others 12 tt h)
 
 pub returns-in_default : goal.returns-in_default
-returns-in_default c = not_done c.args.c.place c.in_default.in_default-own.keys2
+returns-in_default c = not_done c.args.c.place (opened c.in_default.in_default-own.keys2)
