@@ -24,5 +24,5 @@ returns-in-Refused c =
 pub returns-in-Ready : goal.returns-in-Ready
 returns-in-Ready c = (
   c.end_piece-in-Ready.ensures _ _ c.fill_held-s.ensures,
-  c.clear_words-in-Ready.ensures ∙ ap (λ (n : ℕ). replicate n 0) c.work-in-Ready-1.given,
+  c.clear_words-in-Ready.ensures ∙ ap (λ (n : ℕ). replicate n 0) c.fill_held-s.auto.work,
 )
