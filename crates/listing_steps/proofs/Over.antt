@@ -1,12 +1,10 @@
 -- What a line counts, by its place, and the step where that is beyond the ceiling. Assumes nothing.
 use mathlib.Core.Path.{◌≡◌, refl, sym, ◌∙◌, subst}
 use mathlib.Core.Bool.{Bool, true, false, cond}
-use mathlib.Core.List.{List, [], ◌∷◌}
+use mathlib.Core.List.{List, []}
 use Prim.Native.Nat.{ℕ}
 use borrow.Author.Tests.{ne_eqb}
 use lib.Dec.{T}
-use denote.Enum.Declared.{tag_of}
-use types.Run.{OneOf, miss}
 use Rattle.buffers.specs.Texts.{Text, q}
 use Rattle.buffers.specs.Writes.{Wrote}
 use Rattle.buffers.specs.Replies.{value}
@@ -20,56 +18,32 @@ use Rattle.lines.specs.declared.Place.{Place}
 use Rattle.lines.specs.declared.Place.TheVariants.{Stop, Classes, Class, Flags, Generic, Base, Method, MethodFlags, MethodGeneric, Returns, ParamType, ParamName, Done, Packing, Size}
 use Rattle.lines.specs.declared.Cursor.{Cursor}
 use Rattle.lines.specs.declared.Step.{Step}
-use Rattle.lines.specs.contracts.Place.{the_type}
 use Rattle.lines.proofs.Ceiling.{listed-beyond, counts-at, stays_within}
 use Rattle.lines.proofs.Stepping.{base-shows, returns-shows, param-type-shows, param-name-shows}
 use Rattle.listing_steps.specs.Filling.{is_done}
 
--- All places but those of base types and return types; and but those of parameters too.
-abbrev pub later : List ℕ
-later = 0 ∷ 1 ∷ 2 ∷ 3 ∷ 4 ∷ 6 ∷ 7 ∷ 8 ∷ 10 ∷ 11 ∷ 12 ∷ 13 ∷ 14 ∷ []
-
-abbrev pub uncounted : List ℕ
-uncounted = 0 ∷ 1 ∷ 2 ∷ 3 ∷ 4 ∷ 6 ∷ 7 ∷ 8 ∷ 12 ∷ 13 ∷ 14 ∷ []
-
-pub not-anew : (p : Place) (i : ℕ) → OneOf later (tag_of the_type p) → false ≡ counts_anew p i
-not-anew Stop i h = refl
-not-anew Classes i h = refl
-not-anew Class i h = refl
-not-anew Flags i h = refl
-not-anew Packing i h = refl
-not-anew Size i h = refl
-not-anew Generic i h = refl
-not-anew Base i h = absurd (miss later 5 tt h)
-not-anew Method i h = refl
-not-anew MethodFlags i h = refl
-not-anew MethodGeneric i h = refl
-not-anew Returns i h = absurd (miss later 9 tt h)
-not-anew ParamType i h = refl
-not-anew ParamName i h = refl
-not-anew Done i h = refl
-
+-- What is no base type, no return type, and no parameter either, counts nothing.
 module _ (v : View) where
-  nothing-over : (p : Place) (k m : ℕ) → OneOf uncounted (tag_of the_type p) → false ≡ is_over (place_work v p k m)
+  nothing-over : (p : Place) (k m : ℕ) → (p ≡ Base → ⊥) → (p ≡ Returns → ⊥) → (p ≡ ParamType → ⊥) → (p ≡ ParamName → ⊥) → false ≡ is_over (place_work v p k m)
   unfolding is_over
-  nothing-over Stop k m h = refl
-  nothing-over Classes k m h = refl
-  nothing-over Class k m h = refl
-  nothing-over Flags k m h = refl
-  nothing-over Packing k m h = refl
-  nothing-over Size k m h = refl
-  nothing-over Generic k m h = refl
-  nothing-over Base k m h = absurd (miss uncounted 5 tt h)
-  nothing-over Method k m h = refl
-  nothing-over MethodFlags k m h = refl
-  nothing-over MethodGeneric k m h = refl
-  nothing-over Returns k m h = absurd (miss uncounted 9 tt h)
-  nothing-over ParamType k m h = absurd (miss uncounted 10 tt h)
-  nothing-over ParamName k m h = absurd (miss uncounted 11 tt h)
-  nothing-over Done k m h = refl
+  nothing-over Stop k m b r t n = refl
+  nothing-over Classes k m b r t n = refl
+  nothing-over Class k m b r t n = refl
+  nothing-over Flags k m b r t n = refl
+  nothing-over Packing k m b r t n = refl
+  nothing-over Size k m b r t n = refl
+  nothing-over Generic k m b r t n = refl
+  nothing-over Base k m b r t n = absurd (b refl)
+  nothing-over Method k m b r t n = refl
+  nothing-over MethodFlags k m b r t n = refl
+  nothing-over MethodGeneric k m b r t n = refl
+  nothing-over Returns k m b r t n = absurd (r refl)
+  nothing-over ParamType k m b r t n = absurd (t refl)
+  nothing-over ParamName k m b r t n = absurd (n refl)
+  nothing-over Done k m b r t n = refl
 
-  pub not-over : (c : Cursor) → OneOf uncounted (tag_of the_type c.place) → false ≡ is_over_at v c
-  not-over c h = nothing-over c.place c.class.0 c.method h ∙ counts-at v c refl
+  pub not-over : (c : Cursor) → (c.place ≡ Base → ⊥) → (c.place ≡ Returns → ⊥) → (c.place ≡ ParamType → ⊥) → (c.place ≡ ParamName → ⊥) → false ≡ is_over_at v c
+  not-over c b r t n = nothing-over c.place c.class.0 c.method b r t n ∙ counts-at v c refl
 
   -- By what a function that counts says of a place.
   pub over-is : (c : Cursor) {p : Place} {over : Bool} → c.place ≡ p → over ≡ is_over (place_work v p c.class.0 c.method) → over ≡ is_over_at v c
@@ -146,30 +120,30 @@ module _ (c : Cursor) {o o' : List ℕ} {at end : ℕ} {next : Cursor} where
         → (v : View) → is_over_at v c ≡ true → Stepped v c o at o' (record { next = next; at = end })
     returns-marked e w v over = marks v c (ReturnType c.class.0 c.method) (returns-shows v c e refl refl refl) (counts-at v c e ∙ over) goes refl w
 
-    pub parameters-passed : OneOf later (tag_of the_type c.place) → Wrote o at [] o' end
+    pub parameters-passed : (c.place ≡ Base → ⊥) → (c.place ≡ Returns → ⊥) → Wrote o at [] o' end
         → (v : View) → is_over_at v c ≡ true → Stepped v c o at o' (record { next = next; at = end })
     unfolding is_over
-    parameters-passed h w v over = go c.place refl h
+    parameters-passed b r w v over = go c.place refl
       where
         nothing : is_over (value 0) ≡ is_over_at v c → Stepped v c o at o' (record { next = next; at = end })
         nothing is = absurd (subst T (sym (is ∙ over)) tt)
 
-        go : (p : Place) → c.place ≡ p → OneOf later (tag_of the_type p) → Stepped v c o at o' (record { next = next; at = end })
-        go Stop e k = nothing (counts-at v c e)
-        go Classes e k = nothing (counts-at v c e)
-        go Class e k = nothing (counts-at v c e)
-        go Flags e k = nothing (counts-at v c e)
-        go Packing e k = nothing (counts-at v c e)
-        go Size e k = nothing (counts-at v c e)
-        go Generic e k = nothing (counts-at v c e)
-        go Base e k = absurd (miss later 5 tt k)
-        go Method e k = nothing (counts-at v c e)
-        go MethodFlags e k = nothing (counts-at v c e)
-        go MethodGeneric e k = nothing (counts-at v c e)
-        go Returns e k = absurd (miss later 9 tt k)
-        go ParamType e k = passes v c (ParameterType c.class.0 c.method c.i) (param-type-shows v c e refl refl refl) (counts-at v c e ∙ over) goes refl w
-        go ParamName e k = passes v c (ParameterName c.class.0 c.method c.i) (param-name-shows v c e refl refl refl refl) (counts-at v c e ∙ over) goes refl w
-        go Done e k = nothing (counts-at v c e)
+        go : (p : Place) → c.place ≡ p → Stepped v c o at o' (record { next = next; at = end })
+        go Stop e = nothing (counts-at v c e)
+        go Classes e = nothing (counts-at v c e)
+        go Class e = nothing (counts-at v c e)
+        go Flags e = nothing (counts-at v c e)
+        go Packing e = nothing (counts-at v c e)
+        go Size e = nothing (counts-at v c e)
+        go Generic e = nothing (counts-at v c e)
+        go Base e = absurd (b e)
+        go Method e = nothing (counts-at v c e)
+        go MethodFlags e = nothing (counts-at v c e)
+        go MethodGeneric e = nothing (counts-at v c e)
+        go Returns e = absurd (r e)
+        go ParamType e = passes v c (ParameterType c.class.0 c.method c.i) (param-type-shows v c e refl refl refl) (counts-at v c e ∙ over) goes refl w
+        go ParamName e = passes v c (ParameterName c.class.0 c.method c.i) (param-name-shows v c e refl refl refl refl) (counts-at v c e ∙ over) goes refl w
+        go Done e = nothing (counts-at v c e)
 
 -- ---- Within it
 

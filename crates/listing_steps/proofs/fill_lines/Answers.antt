@@ -1,6 +1,5 @@
 use mathlib.Core.Path.{refl, sym, ◌∙◌, subst}
 use lib.Dec.{T}
-use mathlib.Core.Bool.{false}
 use native.Mathlib.Omega.{arith}
 use Rattle.numbers.proofs.Pick.{by-lt}
 use Rattle.lines.proofs.Ceiling.{all-at}

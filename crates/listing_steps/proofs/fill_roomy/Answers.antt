@@ -1,4 +1,3 @@
-use mathlib.Core.Bool.{true, false}
 use Rattle.lines.proofs.Ceiling.{all-at}
 use native.Mathlib.Omega.{arith}
 use Rattle.listing_steps.proofs.Filling.{going_start, going-inside}

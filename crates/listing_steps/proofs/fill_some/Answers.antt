@@ -4,7 +4,6 @@ use native.Mathlib.Omega.{arith}
 use Rattle.listing_steps.proofs.Filling.{going-full, going_on}
 use Rattle.listing_steps.proofs.Over.{over-undone, over-here}
 use Rattle.listing_steps.proofs.fill_some.Goals as goal
-use Rattle.listing_steps.proofs.fill_some.Goals.{then-not-from+else-is_over, else-not-from}
 
 pub returns-then-out-spent : goal.returns-then-out-spent
 returns-then-out-spent c =
@@ -13,9 +12,6 @@ returns-then-out-spent c =
       record { going = λ p o g. going-full g line c.if-out-spent.true; fewer = λ some room. omega (arith, some); within = λ e. absurd (subst T (sym e) tt) },
       c.requires.knows,
     )
-
-pub overflow_sub-result : goal.overflow_sub-result
-overflow_sub-result c = c.requires.left_nonzero
 
 pub returns-then-is_over : goal.returns-then-is_over
 returns-then-is_over c =
@@ -29,18 +25,3 @@ returns-then-is_over c =
       },
       c.requires.knows,
     )
-
-pub fill_lines-requires : goal.fill_lines-requires
-fill_lines-requires c =
-    let pre = c.requires in
-    record {
-      laid = pre.laid;
-      by_index = pre.by_index;
-      knows = pre.knows;
-      all_fit = pre.all_fit;
-      next_value = elim c.if-not-from.branch [
-        | then-not-from+else-is_over w ↦ over-here _ (pre.by_index _ _) w.is_over.ensures w.if-is_over.false
-        | else-not-from w ↦ pre.next_value w.if-not-from.false
-      ];
-      at_in_bounds = pre.at_in_bounds;
-    }

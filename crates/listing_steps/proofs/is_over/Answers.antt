@@ -1,4 +1,3 @@
-use borrow.Enum.Refused.{opened}
 use Rattle.listing_steps.proofs.Over.{not-over, over-is}
 use Rattle.listing_steps.proofs.is_over.Goals as goal
 
@@ -15,4 +14,4 @@ pub returns-in-ParamName : goal.returns-in-ParamName
 returns-in-ParamName c = over-is _ _ c.in-ParamName.is c.method_over-in-ParamName.ensures
 
 pub returns-in_default : goal.returns-in_default
-returns-in_default c = not-over _ _ (opened c.in_default.in_default-own.keys5)
+returns-in_default c = let no = c.in_default in not-over _ _ no.not-Base no.not-Returns no.not-ParamType no.not-ParamName

@@ -1,4 +1,3 @@
-use borrow.Enum.Refused.{opened}
 use Rattle.listing_steps.proofs.Over.{base-marked, base-passed, returns-marked, parameters-passed}
 use Rattle.listing_steps.proofs.spent_line.Goals as goal
 
@@ -12,4 +11,4 @@ pub returns-in-Returns : goal.returns-in-Returns
 returns-in-Returns c = returns-marked _ c.next_method-next.ensures c.in-Returns.is c.push_spent-end-in-Returns.ensures
 
 pub returns-in_default : goal.returns-in_default
-returns-in_default c = parameters-passed _ c.next_method-next-in_default.ensures (opened c.in_default.in_default-own.keys3) c.push_nothing-end-in_default.ensures
+returns-in_default c = parameters-passed _ c.next_method-next-in_default.ensures c.in_default.not-Base c.in_default.not-Returns c.push_nothing-end-in_default.ensures

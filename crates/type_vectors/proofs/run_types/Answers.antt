@@ -1,4 +1,3 @@
-use Prim.Native.Nat.{◌-◌}
 use native.Mathlib.Omega.{arith}
 use Rattle.heaps.proofs.Lookups.{find-within}
 use Rattle.type_vectors.proofs.run_types.Goals as goal

@@ -1,4 +1,3 @@
-use Prim.Native.Nat.{◌-◌}
 use native.Mathlib.Omega.{arith}
 use Rattle.heaps.proofs.Lookups.{find-within}
 use Rattle.vectors.proofs.run_cases.Goals as goal
