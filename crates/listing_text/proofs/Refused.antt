@@ -33,7 +33,7 @@ use Rattle.lines.specs.Ceiling.{listed}
 use Rattle.lines.proofs.Ceiling.{listed-within}
 use Rattle.lines.specs.contracts.Place.{the_type}
 use Rattle.listing_steps.specs.Filling.{is_done, Piece, piece_from, piece_of, most_steps, Pieced}
-use Rattle.listing_steps.proofs.Filling.{is-done, goes_on, going_start, going-out, going_done, going-full, going_on}
+use Rattle.listing_steps.proofs.Filling.{is-done, goes_on as goes-further, going_start, going-out, going_done, going-full, going_on}
 
 -- Opening refuses by 1, 2 or 3.
 by_tests : (short cut over : Bool) (h : Header) {why : Refusal} → h.answer ≡ Ready
@@ -127,7 +127,7 @@ module _ (o : Options) (t strings blob : List ℕ) {why : Refusal} (e : (opened 
     skips : {k : ℕ} (c d : Cursor) → is_done c.place ≡ false → line_at v c ≡ [] → next_at v c ≡ d → Ends k d → Ends (suc k) c
     skips c d f l g ends n h =
         let in-room : length ([] ++ line_at v c) ≤ room = rw l (omega arith) in
-        goes_on v room [] c n (omega arith) f in-room ∙ rw (l, g) (ends (n - 1) (omega arith))
+        goes-further v room [] c n (omega arith) f in-room ∙ rw (l, g) (ends (n - 1) (omega arith))
 
     ends-class : (c m i : ℕ) → Ends 1 (cursor at.Class c m i)
     unfolding line_at next_at

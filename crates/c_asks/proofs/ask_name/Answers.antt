@@ -11,7 +11,7 @@ returns-in-Question c =
     let a = c.args in
     let asked = sym (ap name_meant c.in-Question.is) ∙ c.name_asked.ensures in
     let done = c.ask_name in
-    subst (λ (o : Options). NamedCharged (asked_name (name_asked a.question a.a a.b a.c) (view o a.tables.now a.strings.now a.blob.now) a.steps) a.buf.now done.result.reply done.new.1.1.1.1.1.1.0 done.result.left) c.options_of-meant.ensures
+    subst (λ (o : Options). NamedCharged (asked_name (name_asked a.question a.a a.b a.c) (view o a.tables.now a.strings.now a.blob.now) a.steps) a.buf.now done.result.reply done.new.buf done.result.left) c.options_of-meant.ensures
     (asked-name _ a.steps asked done.ensures)
 
 pub returns-in-NoQuestion : goal.returns-in-NoQuestion
@@ -19,5 +19,5 @@ returns-in-NoQuestion c =
     let a = c.args in
     let asked = sym (ap name_meant c.in-NoQuestion.is) ∙ c.name_asked.ensures in
     let done = c.refuse in
-    subst (λ (o : Options). NamedCharged (asked_name (name_asked a.question a.a a.b a.c) (view o a.tables.now a.strings.now a.blob.now) a.steps) a.buf.now done.result done.new.0 a.steps) c.options_of-meant.ensures
+    subst (λ (o : Options). NamedCharged (asked_name (name_asked a.question a.a a.b a.c) (view o a.tables.now a.strings.now a.blob.now) a.steps) a.buf.now done.result done.new.buf a.steps) c.options_of-meant.ensures
     (no_name _ _ _ _ a.steps c.refused_question-why.ensures asked done.ensures)
