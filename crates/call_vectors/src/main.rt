@@ -2,13 +2,13 @@
 // writes, data/steps what it writes of allowances, data/modes of both modes of opening; then, in the same way, answers that are wrong on
 // purpose from the file `wrong`, so that a program that finds no difference is found out. What stands before the first `@` is passed over;
 // each `@` begins a block: a line with its name, the lines `tables HEX`, `strings HEX` and `blob HEX`, with `-` for an empty stream, if its
-// options are not 0 a line `options N`, the bits that C takes, then a line for each answer (see answers.rt). Lines that are empty or begin
+// options are not 0 a line `options N`, the bits that C takes, then a line for each answer (see recorded.rt). Lines that are empty or begin
 // with `#` are passed over. Each answer that differs is written as `FAIL` and its line; each block as `ok` or `FAIL`, its name and its
 // answers.
 
 #![tactic(auto)]
 
-mod answers;
+mod recorded;
 
 use check::same;
 use header::Options;
@@ -74,7 +74,7 @@ fn run_line(
     if are_options(line) {
         return Outcome::NoAnswer;
     }
-    if answers::agrees(line, tables, strings, blob, options) {
+    if recorded::agrees(line, tables, strings, blob, options) {
         return Outcome::Agreed;
     }
     write(rt, b"FAIL  ");

@@ -1,5 +1,5 @@
 use Prim.Native.Nat.{◌+◌, ◌-◌}
-use Rattle.call_vectors.proofs.answers.rooms_agree.Given as goal
+use Rattle.call_vectors.proofs.recorded.rooms_agree.Given as goal
 
 abbrev pub invariant-loop-room : goal.invariant-loop-room
 invariant-loop-room l = Unit {0}
