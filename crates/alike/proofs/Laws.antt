@@ -4,7 +4,6 @@ use mathlib.Core.Path.{◌≡◌, sym, ap, ◌∙◌}
 use mathlib.Core.List.{List, []}
 use Prim.Native.Nat.{ℕ}
 use lib.ListN.{length, replicate}
-use Rattle.buffers.specs.declared.Reply.{Reply}
 use Rattle.header.specs.declared.Options.{Options}
 use Rattle.tables.specs.Extents.{walk_says, walk_of}
 use Rattle.tables.specs.declared.Extents.{Extents}
@@ -19,6 +18,7 @@ use Rattle.asks.specs.declared.Question.{Question}
 use Rattle.asks.specs.declared.Question.TheVariants.{Number, Name}
 use Rattle.record.proofs.Laws.{walk_is}
 use Rattle.record.proofs.Demand.{rearrangement-survives}
+use Rattle.buffers.specs.Replies.{Reply}
 
 module _ {o : Options} {t u : List ℕ} (rearranged : Rearranged o t u) where
   pub number-alike : (strings blob : List ℕ) (call : NumberCall) (allowance : ℕ) {r r' : Reply} {left left' : ℕ}

@@ -17,40 +17,27 @@ use tables::Extents;
 
 // What a call hands back on the one stream and on the other.
 #[derive(Drop)]
-struct Answers {
-    before: Charged,
-    after: Charged,
+struct Both<T> {
+    before: T,
+    after: T,
 }
 
-// The replies alone, where what is left stands in records that were lent.
-#[derive(Drop)]
-struct Replies {
-    before: Reply,
-    after: Reply,
-}
-
-#[derive(Drop)]
-struct Walks {
-    before: Extents,
-    after: Extents,
-}
-
-fn walk_alike(t: &[u8], u: &[u8]) -> Walks
+fn walk_alike(t: &[u8], u: &[u8]) -> Both<Extents>
     requires { Rearranged base t.now u.now }
     ensures { result.after ≡ result.before }
 {
     let before = dotnet::walk(t);
     let after = dotnet::walk(u);
-    Walks { before, after }
+    Both { before, after }
 }
 
-fn walk_with_alike(t: &[u8], u: &[u8], options: Options) -> Walks
+fn walk_with_alike(t: &[u8], u: &[u8], options: Options) -> Both<Extents>
     requires { Rearranged options t.now u.now }
     ensures { result.after ≡ result.before }
 {
     let before = dotnet::walk_with(t, options);
     let after = dotnet::walk_with(u, options);
-    Walks { before, after }
+    Both { before, after }
 }
 
 // Any call for a number.
@@ -62,13 +49,13 @@ fn ask_number_alike(
     options: Options,
     steps: u64,
     question: NumberQuestion,
-) -> Answers
+) -> Both<Charged>
     requires { Rearranged options t.now u.now }
     ensures { (result.after.reply ≡ result.before.reply) × (result.after.left ≡ result.before.left) }
 {
     let before = dotnet::ask_number(t, strings, blob, options, steps, question);
     let after = dotnet::ask_number(u, strings, blob, options, steps, question);
-    Answers { before, after }
+    Both { before, after }
 }
 
 // Any call for a name.
@@ -82,14 +69,14 @@ fn ask_name_alike(
     question: NameQuestion,
     buf: &mut [u8],
     other: &mut [u8],
-) -> Answers
+) -> Both<Charged>
     requires rearranged { Rearranged options t.now u.now }
     requires other_len { length other.old ≡ length buf.old }
     ensures { (result.after.reply ≡ result.before.reply) × (other.new ≡ buf.new) × (result.after.left ≡ result.before.left) }
 {
     let before = dotnet::ask_name(t, strings, blob, options, steps, question, buf);
     let after = dotnet::ask_name(u, strings, blob, options, steps, question, other);
-    Answers { before, after }
+    Both { before, after }
 }
 
 // Any call within an allowance that is lent.
@@ -104,11 +91,11 @@ fn ask_within_alike(
     question: Question,
     buf: &mut [u8],
     other: &mut [u8],
-) -> Replies
+) -> Both<Reply>
     requires { Rearranged options t.now u.now × (length other.old ≡ length buf.old) × (spare.old.left ≡ allowance.old.left) }
     ensures { (result.after ≡ result.before) × (other.new ≡ buf.new) × (spare.new.left ≡ allowance.new.left) }
 {
     let before = dotnet::ask_within(t, strings, blob, options, allowance, question, buf);
     let after = dotnet::ask_within(u, strings, blob, options, spare, question, other);
-    Replies { before, after }
+    Both { before, after }
 }

@@ -15,13 +15,13 @@ ghost use Rattle.lines.specs.Lines.{name_room, numbered_line, name_line, goes_on
 ghost use Rattle.lines.specs.Ceiling.{listed};
 ghost use Rattle.lines.specs.Cursors.{Went};
 
-use answers::Known;
-use buffers::Told;
+use answers::{Answered, Counted, Known};
+use buffers::Unnamed;
 use lines::{Cursor, Step};
 use questions::{NameQuestion, NumberQuestion};
 
 // A step of the listing, and what is known after it.
-#[derive(Drop)]
+#[derive(Clone, Copy)]
 pub struct Onward {
     pub step: Step,
     pub known: Known,
@@ -47,11 +47,11 @@ pub fn number_line(
         ((o : List ℕ) (key : Text) → Wrote o at key out.old start → Went
         (numbered_line optional key (number_answer (number_call question) v)) next o at out.new result.step) × Knows v blob.now result.known }
 {
-    let counted = answers::reply_number(tables, strings, blob, layout, question, known);
-    let reply = counted.reply;
-    let after = counted.known;
+    let Counted { reply, known } = answers::reply_number(
+        tables, strings, blob, layout, question, known,
+    );
     let step = lines::end_number(out, at, start, reply, optional, next);
-    Onward { step, known: after }
+    Onward { step, known }
 }
 
 // The line of a name that is within the ceiling, and where it goes on: to one cursor where the lines of its kind may go on behind it, to the
@@ -78,30 +78,16 @@ pub fn name_line(
         ((o : List ℕ) (key : Text) → Wrote o at key out.old start → Went (name_line key a) (cond (goes_on a) more past) o at
         out.new result.step) × Knows v blob.now result.known }
 {
-    let answered = answers::tell_name(out, start, tables, strings, blob, layout, question, known);
-    let told = answered.told;
-    let after = answered.known;
-    match told {
-        Told::Name(end) => {
-            let e = lines::end_name(out, start, end);
-            Onward {
-                step: Step { next: more, at: e },
-                known: after,
-            }
-        }
-        Told::Missing(_) => {
-            let e = lines::end_missing(out, start);
-            Onward {
-                step: Step { next: more, at: e },
-                known: after,
-            }
-        }
-        Told::NoRow => {
-            let e = lines::push_nothing(out, at);
-            Onward {
-                step: Step { next: past, at: e },
-                known: after,
-            }
-        }
+    let Answered { told, known } = answers::tell_name(
+        out, start, tables, strings, blob, layout, question, known,
+    );
+    let (next, at) = match told {
+        Ok(end) => (more, lines::end_name(out, start, end)),
+        Err(Unnamed::Missing(_)) => (more, lines::end_missing(out, start)),
+        Err(Unnamed::NoRow) => (past, lines::push_nothing(out, at)),
+    };
+    Onward {
+        step: Step { next, at },
+        known,
     }
 }

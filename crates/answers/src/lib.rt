@@ -11,15 +11,13 @@ ghost use Rattle.record.specs.View.{View};
 ghost use Rattle.record.specs.Answers.{Numbered, number_answer, name_answer};
 ghost use Rattle.rows.specs.Layout.{Laid, view_in};
 ghost use Rattle.questions.specs.Questions.{number_call, name_call};
-ghost use Rattle.places.specs.Places.{Owns};
-ghost use Rattle.method_signatures.specs.Known.{KnowsSignature};
-ghost use Rattle.bases.specs.Candidates.{KnowsBases};
 ghost use Rattle.answers.specs.Known.{Knows};
 
 use bases::Bases;
 use buffers::{Reply, Told};
-use method_signatures::Signature;
-use places::Own;
+use class_answers::ToldBase;
+use method_signatures::{Signature, Typed};
+use places::{Own, Placed};
 use questions::{NameQuestion, NumberQuestion};
 
 // What is known.
@@ -31,14 +29,14 @@ pub struct Known {
 }
 
 // What the answer for a name came to, and what is known after it.
-#[derive(Drop)]
+#[derive(Clone, Copy)]
 pub struct Answered {
     pub told: Told,
     pub known: Known,
 }
 
 // The answer for a number, and what is known after it.
-#[derive(Drop)]
+#[derive(Clone, Copy)]
 pub struct Counted {
     pub reply: Reply,
     pub known: Known,
@@ -48,51 +46,10 @@ pub struct Counted {
 pub fn nothing_known() -> Known
     ensures { (v : View) (heap : List ℕ) → Knows v heap result }
 {
-    let own = places::no_own();
-    let signature = method_signatures::no_signature();
-    let bases = bases::no_bases();
     Known {
-        own,
-        signature,
-        bases,
-    }
-}
-
-// What is known, with the methods of another class.
-fn with_own(known: Known, own: Own) -> Known
-    ensures { (v : View) (heap : List ℕ) → Knows v heap known → Owns v own → Knows v heap result }
-{
-    let signature = known.signature;
-    let bases = known.bases;
-    Known {
-        own,
-        signature,
-        bases,
-    }
-}
-
-// The same with another signature.
-fn with_signature(known: Known, own: Own, signature: Signature) -> Known
-    ensures { (v : View) (heap : List ℕ) → Knows v heap known → Owns v own → KnowsSignature v heap signature → Knows v heap result }
-{
-    let bases = known.bases;
-    Known {
-        own,
-        signature,
-        bases,
-    }
-}
-
-// The same with other base types.
-fn with_bases(known: Known, bases: Bases) -> Known
-    ensures { (v : View) (heap : List ℕ) → Knows v heap known → KnowsBases v bases → Knows v heap result }
-{
-    let own = known.own;
-    let signature = known.signature;
-    Known {
-        own,
-        signature,
-        bases,
+        own: places::no_own(),
+        signature: method_signatures::no_signature(),
+        bases: bases::no_bases(),
     }
 }
 
@@ -110,63 +67,56 @@ pub fn reply_number(
     ensures { let v = view_in tables.now layout.now strings.now blob.now in
         Numbered (number_answer (number_call question) v) result.reply × Knows v blob.now result.known }
 {
-    let own = known.own;
     match question {
-        NumberQuestion::ClassCount => {
-            let reply = Reply::Is(places::count_classes(layout));
-            Counted { reply, known }
-        }
-        NumberQuestion::ClassFlags(c) => {
-            let reply = class_answers::class_flags_of(tables, layout, c);
-            Counted { reply, known }
-        }
-        NumberQuestion::GenericCount(c) => {
-            let reply = class_answers::count_generics_of(tables, layout, c);
-            Counted { reply, known }
-        }
-        NumberQuestion::BaseCount(c) => {
-            let reply = class_answers::count_bases_of(tables, strings, blob, layout, c);
-            Counted { reply, known }
-        }
-        NumberQuestion::MethodCount(c) => {
-            let reply = method_answers::count_methods_of(tables, layout, c);
-            Counted { reply, known }
-        }
+        NumberQuestion::ClassCount => Counted {
+            reply: Ok(places::count_classes(layout)),
+            known,
+        },
+        NumberQuestion::ClassFlags(c) => Counted {
+            reply: class_answers::class_flags_of(tables, layout, c),
+            known,
+        },
+        NumberQuestion::GenericCount(c) => Counted {
+            reply: class_answers::count_generics_of(tables, layout, c),
+            known,
+        },
+        NumberQuestion::BaseCount(c) => Counted {
+            reply: class_answers::count_bases_of(tables, strings, blob, layout, c),
+            known,
+        },
+        NumberQuestion::MethodCount(c) => Counted {
+            reply: method_answers::count_methods_of(tables, layout, c),
+            known,
+        },
         NumberQuestion::MethodFlags(c, m) => {
-            let placed = places::place_method(tables, layout, c, m, own);
-            let row = placed.row;
-            let reply = method_answers::method_flags_of(tables, layout, row);
+            let Placed { row, own } = places::place_method(tables, layout, c, m, known.own);
             Counted {
-                reply,
-                known: with_own(known, placed.own),
+                reply: method_answers::method_flags_of(tables, layout, row),
+                known: Known { own, ..known },
             }
         }
         NumberQuestion::MethodGenericCount(c, m) => {
-            let placed = places::place_method(tables, layout, c, m, own);
-            let row = placed.row;
-            let reply = method_answers::count_method_generics_of(tables, layout, row);
+            let Placed { row, own } = places::place_method(tables, layout, c, m, known.own);
             Counted {
-                reply,
-                known: with_own(known, placed.own),
+                reply: method_answers::count_method_generics_of(tables, layout, row),
+                known: Known { own, ..known },
             }
         }
         NumberQuestion::ParamCount(c, m) => {
-            let placed = places::place_method(tables, layout, c, m, own);
-            let row = placed.row;
-            let reply = method_answers::count_params_of(tables, strings, blob, layout, c, row);
+            let Placed { row, own } = places::place_method(tables, layout, c, m, known.own);
             Counted {
-                reply,
-                known: with_own(known, placed.own),
+                reply: method_answers::count_params_of(tables, strings, blob, layout, c, row),
+                known: Known { own, ..known },
             }
         }
-        NumberQuestion::ClassPacking(c) => {
-            let reply = class_answers::class_packing_of(tables, layout, c);
-            Counted { reply, known }
-        }
-        NumberQuestion::ClassSize(c) => {
-            let reply = class_answers::class_size_of(tables, layout, c);
-            Counted { reply, known }
-        }
+        NumberQuestion::ClassPacking(c) => Counted {
+            reply: class_answers::class_packing_of(tables, layout, c),
+            known,
+        },
+        NumberQuestion::ClassSize(c) => Counted {
+            reply: class_answers::class_size_of(tables, layout, c),
+            known,
+        },
     }
 }
 
@@ -187,83 +137,107 @@ pub fn tell_name(
         ToldIs (name_answer (name_call question) v) buf.old at buf.new result.told ×
         Knows v blob.now result.known }
 {
-    let own = known.own;
     match question {
-        NameQuestion::ClassName(c) => {
-            let told = class_answers::tell_class_name(buf, at, tables, strings, layout, c);
-            Answered { told, known }
-        }
-        NameQuestion::GenericName(c, g) => {
-            let told = class_answers::tell_generic_name(buf, at, tables, strings, layout, c, g);
-            Answered { told, known }
-        }
+        NameQuestion::ClassName(c) => Answered {
+            told: class_answers::tell_class_name(buf, at, tables, strings, layout, c),
+            known,
+        },
+        NameQuestion::GenericName(c, g) => Answered {
+            told: class_answers::tell_generic_name(buf, at, tables, strings, layout, c, g),
+            known,
+        },
         NameQuestion::BaseName(c, b) => {
-            let seen = known.bases;
-            let base = class_answers::tell_base_name(
-                buf, at, tables, strings, blob, layout, c, b, seen,
+            let ToldBase { told, bases } = class_answers::tell_base_name(
+                buf,
+                at,
+                tables,
+                strings,
+                blob,
+                layout,
+                c,
+                b,
+                known.bases,
             );
-            let told = base.told;
             Answered {
                 told,
-                known: with_bases(known, base.bases),
+                known: Known { bases, ..known },
             }
         }
         NameQuestion::MethodName(c, m) => {
-            let placed = places::place_method(tables, layout, c, m, own);
-            let row = placed.row;
-            let told = method_answers::tell_method_name(buf, at, tables, strings, layout, row);
+            let Placed { row, own } = places::place_method(tables, layout, c, m, known.own);
             Answered {
-                told,
-                known: with_own(known, placed.own),
+                told: method_answers::tell_method_name(buf, at, tables, strings, layout, row),
+                known: Known { own, ..known },
             }
         }
         NameQuestion::MethodGenericName(c, m, g) => {
-            let placed = places::place_method(tables, layout, c, m, own);
-            let row = placed.row;
+            let Placed { row, own } = places::place_method(tables, layout, c, m, known.own);
             let told = method_answers::tell_method_generic_name(
                 buf, at, tables, strings, layout, row, g,
             );
             Answered {
                 told,
-                known: with_own(known, placed.own),
+                known: Known { own, ..known },
             }
         }
         NameQuestion::ReturnType(c, m) => {
-            let placed = places::place_method(tables, layout, c, m, own);
-            let row = placed.row;
-            let typed = method_answers::tell_return_type_of(
+            let Placed { row, own } = places::place_method(tables, layout, c, m, known.own);
+            let Typed { told, signature } = method_answers::tell_return_type_of(
                 buf, at, tables, strings, blob, layout, c, row,
             );
-            let told = typed.told;
             Answered {
                 told,
-                known: with_signature(known, placed.own, typed.signature),
+                known: Known {
+                    own,
+                    signature,
+                    ..known
+                },
             }
         }
         NameQuestion::ParamType(c, m, p) => {
-            let placed = places::place_method(tables, layout, c, m, own);
-            let row = placed.row;
-            let read = known.signature;
-            let typed = method_answers::tell_param_type_of(
-                buf, at, tables, strings, blob, layout, c, row, p, read,
+            let Placed { row, own } = places::place_method(tables, layout, c, m, known.own);
+            let Typed { told, signature } = method_answers::tell_param_type_of(
+                buf,
+                at,
+                tables,
+                strings,
+                blob,
+                layout,
+                c,
+                row,
+                p,
+                known.signature,
             );
-            let told = typed.told;
             Answered {
                 told,
-                known: with_signature(known, placed.own, typed.signature),
+                known: Known {
+                    own,
+                    signature,
+                    ..known
+                },
             }
         }
         NameQuestion::ParamName(c, m, p) => {
-            let placed = places::place_method(tables, layout, c, m, own);
-            let row = placed.row;
-            let read = known.signature;
-            let typed = method_answers::tell_param_name_of(
-                buf, at, tables, strings, blob, layout, c, row, p, read,
+            let Placed { row, own } = places::place_method(tables, layout, c, m, known.own);
+            let Typed { told, signature } = method_answers::tell_param_name_of(
+                buf,
+                at,
+                tables,
+                strings,
+                blob,
+                layout,
+                c,
+                row,
+                p,
+                known.signature,
             );
-            let told = typed.told;
             Answered {
                 told,
-                known: with_signature(known, placed.own, typed.signature),
+                known: Known {
+                    own,
+                    signature,
+                    ..known
+                },
             }
         }
     }
@@ -308,6 +282,5 @@ pub fn answer_name(
         question,
         nothing_known(),
     );
-    let told = answered.told;
-    buffers::end_call(buf, told)
+    buffers::end_call(buf, answered.told)
 }

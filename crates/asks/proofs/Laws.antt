@@ -4,8 +4,7 @@ use mathlib.Core.List.{List}
 use Prim.Native.Nat.{ℕ}
 use native.Mathlib.Numerals.{unary_clauses}
 use lib.ListN.{length, replicate}
-use Rattle.buffers.specs.Replies.{cleared}
-use Rattle.buffers.specs.declared.Reply.{Reply}
+use Rattle.buffers.specs.Replies.{Reply, cleared}
 use Rattle.record.specs.View.{View}
 use Rattle.record.specs.Allowance.{number_charged, name_charged, NumberedCharged, NamedCharged}
 use Rattle.questions.specs.Questions.{number_call, name_call}

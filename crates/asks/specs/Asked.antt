@@ -1,11 +1,11 @@
 -- What any question comes to, asked within an allowance of steps: its reply, the buffer, and what is left.
 use Rattle.std.specs.Prelude.{◌≡◌, List, ℕ, length, replicate}
-use Rattle.buffers.specs.declared.Reply.{Reply}
 use Rattle.record.specs.View.{View}
 use Rattle.record.specs.Allowance.{number_charged, name_charged, NumberedCharged, NamedCharged}
 use Rattle.questions.specs.Questions.{number_call, name_call}
 use Rattle.asks.specs.declared.Question.{Question}
 use Rattle.asks.specs.declared.Question.TheVariants.{Number, Name}
+use Rattle.buffers.specs.Replies.{Reply}
 
 -- A number stands in the reply, and the buffer is then all zeros.
 abbrev pub Asked : View → Question → ℕ → List ℕ → List ℕ → Reply → ℕ → Type 0

@@ -8,7 +8,7 @@ ghost use Rattle.questions.specs.Questions.{number_call, name_call};
 ghost use Rattle.asks.specs.Asked.{Asked};
 
 use buffers::Reply;
-use header::{Opened, Options};
+use header::Options;
 use questions::{NameQuestion, NumberQuestion};
 use rows::columns;
 use steps::Charged;
@@ -39,13 +39,13 @@ pub fn ask_number(
         NumberedCharged (number_charged (number_call question) v steps) result.reply result.left }
 {
     let mut layout = [0u32; columns::SIZE];
-    match opening::open(tables, options, &mut layout) {
-        Opened::Refused(why) => Charged {
-            reply: Reply::No(why),
+    if let Err(why) = opening::open(tables, options, &mut layout) {
+        return Charged {
+            reply: Err(why),
             left: steps,
-        },
-        Opened::Ready => charges::charge_number(tables, strings, blob, &layout, question, steps),
+        };
     }
+    charges::charge_number(tables, strings, blob, &layout, question, steps)
 }
 
 // Any call for a name.
@@ -62,15 +62,13 @@ pub fn ask_name(
         NamedCharged (name_charged (name_call question) v steps) buf.old result.reply buf.new result.left }
 {
     let mut layout = [0u32; columns::SIZE];
-    match opening::open(tables, options, &mut layout) {
-        Opened::Refused(why) => Charged {
+    if let Err(why) = opening::open(tables, options, &mut layout) {
+        return Charged {
             reply: buffers::refuse(buf, why),
             left: steps,
-        },
-        Opened::Ready => {
-            charges::charge_name(buf, tables, strings, blob, &layout, question, steps)
-        }
+        };
     }
+    charges::charge_name(buf, tables, strings, blob, &layout, question, steps)
 }
 
 // Any call, by what its allowance has left. A call for a number clears the buffer.

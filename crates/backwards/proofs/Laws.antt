@@ -1,26 +1,23 @@
 -- How texts that are written from their ends follow one another, and what they come to.
---     behind-none, behind-byte           no byte; one byte
---     behind-then                        one text, then another before it
---     behind-kept, behind-kept-below     what stood before the floor is kept, also by a later call that finds no room
---     placed-then, placed-full           one text, then a call for another before it; a call where the floor is reached
---     placed-from, placed-none           what is known of such a call by its answer
---     moved-wrote                        a text that was written up to the buffer's very end, and then moved to its place, was appended
---     wrote-over-kept                    a text that does not fit, whatever stands behind its place
+--     behind-none                no byte
+--     behind-then                one text, then another before it
+--     behind-kept                what stood before the floor is kept by a later call that finds no room
+--     placed-then                one text, then a call for another before it
+--     placed-from, placed-none   what is known of such a call by its answer
+--     moved-wrote                a text that was written up to the buffer's very end, and then moved to its place, was appended
+--     wrote-over-kept            a text that does not fit, whatever stands behind its place
 -- Assumes nothing.
 use mathlib.Core.Path.{◌≡◌, refl, sym, ◌∙◌, ap, subst}
-use mathlib.Core.List.{List, [], ◌∷◌, ◌++◌}
-use Prim.Native.Nat.{ℕ, zero, suc, ◌+◌, ◌-◌, ◌<◌, ◌≤◌}
-use native.Mathlib.Nat.{add-zero}
+use mathlib.Core.List.{List, [], ◌++◌}
+use Prim.Native.Nat.{ℕ, ◌+◌, ◌-◌, ◌<◌, ◌≤◌}
 use native.Mathlib.Decide.{dec_lt}
 use native.Mathlib.Omega.{arith}
-use lib.ListN.{length, get_or, set, length-set, length-append, get_or-append}
-use lib.Seq.{get_or-set_same, get_or-set_other, get_or-append-add}
+use lib.ListN.{length, get_or, length-append, get_or-append}
+use lib.Seq.{get_or-append-add}
+use Rattle.std.specs.Prelude.{Some, None}
 use Rattle.buffers.specs.Texts.{Text}
 use Rattle.buffers.specs.Writes.{Kept, Wrote}
-use Rattle.buffers.proofs.Writing.{kept_same}
-use Rattle.backwards.specs.Backwards.{Behind, Placed, Moved}
-use Rattle.backwards.specs.declared.Spot.{Spot}
-use Rattle.backwards.specs.declared.Spot.TheVariants.{From, NoRoom}
+use Rattle.backwards.specs.Backwards.{Behind, Spot, Placed, Moved}
 
 pub behind-none : (b : List ℕ) (floor end : ℕ) → floor ≤ end → Behind b floor end [] b end
 behind-none b floor end le = record {
@@ -32,29 +29,12 @@ behind-none b floor end le = record {
   text = λ i lt. absurd (omega arith);
 }
 
-pub behind-byte : (b : List ℕ) (floor end x : ℕ) → floor < end → end ≤ length b → Behind b floor end (x ∷ []) (set b (end - 1) x) (end - 1)
-behind-byte b floor end x lt le = record {
-  long = length-set b (end - 1) x;
-  low = omega arith;
-  place = omega arith;
-  below = λ i h. get_or-set_other b (end - 1) i x 0 (omega arith);
-  above = λ i h. get_or-set_other b (end - 1) i x 0 (omega arith);
-  text = one;
-}
-  where
-    one : (i : ℕ) → i < length (x ∷ []) → get_or (set b (end - 1) x) (end - 1 + i) 0 ≡ get_or (x ∷ []) i 0
-    one zero h = ap (λ (k : ℕ). get_or (set b (end - 1) x) k 0) (add-zero (end - 1)) ∙ get_or-set_same b (end - 1) x 0 (omega arith)
-    one (suc i) h = absurd (omega arith)
-
 module _ {b b₁ : List ℕ} {floor end p : ℕ} {t : Text} (w : Behind b floor end t b₁ p) where
   pub behind-kept : {b₂ : List ℕ} → Kept b₁ floor b₂ → Kept b floor b₂
   behind-kept k = record {
     long = k.long ∙ w.long;
     kept = λ i lt in_b. k.kept i lt (omega (arith, w.long)) ∙ w.below i lt;
   }
-
-  pub behind-kept-below : Kept b floor b₁
-  behind-kept-below = record { long = w.long; kept = λ i lt _. w.below i lt }
 
   pub behind-then : {b₂ : List ℕ} {u : Text} {p₂ : ℕ} → Behind b₁ floor p u b₂ p₂ → Behind b floor end (u ++ t) b₂ p₂
   behind-then {b₂} {u} {p₂} v = record {
@@ -79,18 +59,14 @@ module _ {b b₁ : List ℕ} {floor end p : ℕ} {t : Text} (w : Behind b floor 
           ∙ ap (λ (k : ℕ). get_or (u ++ t) k 0) (sym ij)
 
   pub placed-then : (b₂ : List ℕ) (u : Text) (r : Spot) → Placed b₁ floor p u b₂ r → Placed b floor end (u ++ t) b₂ r
-  placed-then b₂ u (From p₂) v = behind-then v
-  placed-then b₂ u NoRoom v = (omega (arith, v.0, w.place, length-append u t), behind-kept v.1)
-
--- No text of one byte or more fits where the floor is.
-pub placed-full : (b : List ℕ) (floor end : ℕ) (t : Text) (x : ℕ) → end ≡ floor → Placed b floor end (t ++ x ∷ []) b NoRoom
-placed-full b floor end t x e = (omega (arith, length-append t (x ∷ [])), kept_same b floor)
+  placed-then b₂ u (Some p₂) v = behind-then v
+  placed-then b₂ u None v = (omega (arith, v.0, w.place, length-append u t), behind-kept v.1)
 
 module _ {b b' : List ℕ} {floor end : ℕ} {r : Spot} where
-  pub placed-from : {t : Text} (p : ℕ) → Placed b floor end t b' r → r ≡ From p → Behind b floor end t b' p
+  pub placed-from : {t : Text} (p : ℕ) → Placed b floor end t b' r → r ≡ Some p → Behind b floor end t b' p
   placed-from {t} p h e = subst (Placed b floor end t b') e h
 
-  pub placed-none : (t : Text) → Placed b floor end t b' r → r ≡ NoRoom → (end < floor + length t) × Kept b floor b'
+  pub placed-none : (t : Text) → Placed b floor end t b' r → r ≡ None → (end < floor + length t) × Kept b floor b'
   placed-none t h e = subst (Placed b floor end t b') e h
 
 pub moved-wrote : {b b₁ b₂ : List ℕ} {at p : ℕ} {t : Text}

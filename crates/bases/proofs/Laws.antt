@@ -10,9 +10,7 @@ use lib.ListN.{length, get_elem?, take, drop, length-append}
 use lib.Seq.{take_all}
 use Rattle.numbers.proofs.Lists.{item-seam, item-past}
 use Rattle.buffers.specs.Texts.{Text}
-use Rattle.buffers.specs.Writes.{Kept, Said, missing, written, place_says}
-use Rattle.buffers.specs.declared.Place.{Place}
-use Rattle.buffers.specs.declared.Place.TheVariants.{Next, Missing}
+use Rattle.buffers.specs.Writes.{Place, Kept, Said, missing, written, place_says}
 use Rattle.buffers.proofs.Writing.{kept_same, said-some, said-none, kept_then, wrote-anew}
 use Rattle.record.specs.Missing.{over, or_default, present}
 use Rattle.record.specs.Readings.{total}
@@ -24,20 +22,15 @@ use Rattle.record.proofs.Read.{class-row}
 use Rattle.rows.specs.Columns as columns
 use Rattle.rows.specs.Layout.{Laid, rows_at, cell, options_in, view_in}
 use Rattle.rows.proofs.Classes.{classes-are}
-use Rattle.steps.specs.Counting.{Takes, left, spent}
-use Rattle.steps.specs.declared.Steps.{Steps}
-use Rattle.steps.specs.declared.Steps.TheVariants.{Left, Spent}
+use Rattle.steps.specs.Counting.{Steps, Takes, left, spent}
 use Rattle.steps.proofs.Laws.{takes-left, takes-spent}
-use Rattle.sig_leaves.specs.declared.Owner.TheVariants.{Of, Nobody}
 use Rattle.signatures.specs.Environment.{env_in}
 use Rattle.rows.specs.Held.{keyed}
-use Rattle.keys.specs.Keyed.{FoundIs}
-use Rattle.keys.specs.declared.Row.{Row}
-use Rattle.keys.specs.declared.Row.TheVariants.{At, NoRow}
+use Rattle.keys.specs.Keyed.{Row, FoundIs}
 use Rattle.keys.proofs.Laws.{keyed-none, keyed-at-most, interfaces-count, interfaces-found, interfaces-missed, interfaces-passed}
 use Rattle.bases.specs.Candidates.{bases_among, KnowsBases, CandidateIs, index, past}
 use Rattle.bases.specs.declared.Bases.{Bases}
-use Rattle.bases.specs.declared.Candidate.TheVariants.{Index, NoCandidate}
+use Rattle.std.specs.Prelude.{Some, None}
 
 -- ---- An item of a list
 
@@ -131,12 +124,12 @@ module _ {t l : List ℕ} (laid : Laid t l) (strings blob : List ℕ) (r : ℕ) 
 
   -- The name behind an index, in a row of the class, as a signature has it.
   pub type-name : (k i : ℕ) → k ≡ 2 * r
-      → (type_full_name (env_in t l strings blob (Of k) Nobody) (type (env_in t l strings blob (Of k) Nobody) levels) i).got ≡ type_name_in v (r - 2) i
+      → (type_full_name (env_in t l strings blob (Some k) None) (type (env_in t l strings blob (Some k) None) levels) i).got ≡ type_name_in v (r - 2) i
   unfolding env_in type_in type_name_in
   type-name k i e = let q : k ≡ 2 * (r - 2 + 2) = omega arith in rw q
 
   pub type-steps : (k i : ℕ) → k ≡ 2 * r
-      → (type_full_name (env_in t l strings blob (Of k) Nobody) (type (env_in t l strings blob (Of k) Nobody) levels) i).steps ≡ type_steps_in v (r - 2) i
+      → (type_full_name (env_in t l strings blob (Some k) None) (type (env_in t l strings blob (Some k) None) levels) i).steps ≡ type_steps_in v (r - 2) i
   unfolding env_in type_in type_steps_in
   type-steps k i e = let q : k ≡ 2 * (r - 2 + 2) = omega arith in rw q
 
@@ -149,7 +142,7 @@ module _ {t l : List ℕ} (laid : Laid t l) (strings blob : List ℕ) (r : ℕ) 
       ∙ ap (cell t l columns.extends) c
 
   pub candidate-extended : (i : ℕ) {p x : ℕ} → r ≤ rows_at l columns.type_name → i ≡ 0 → p ≡ r - 1 → x ≡ cell t l columns.extends p
-      → CandidateIs t l strings blob r i (Index x 0)
+      → CandidateIs t l strings blob r i (Some (x, 0))
   unfolding base_indices
   candidate-extended i {p} h z e f = rw z (index {after = 0} (ap some (extended h ∙ sym (f ∙ ap (cell t l columns.extends) e))) (omega arith) (keyed-none _ _))
 
@@ -163,14 +156,14 @@ module _ {t l : List ℕ} (laid : Laid t l) (strings blob : List ℕ) (r : ℕ) 
     finds : FoundIs (cell t l columns.impl_class) r (rows_at l columns.impl_class) (i - 1) found
     finds = rw (k, q) at f
 
-    pub candidate-own : (j : ℕ) {x : ℕ} → found ≡ At j → x ≡ cell t l columns.impl_interface j → CandidateIs t l strings blob r i (Index x (j + 1))
+    pub candidate-own : (j : ℕ) {x : ℕ} → found ≡ Some j → x ≡ cell t l columns.impl_interface j → CandidateIs t l strings blob r i (Some (x, (j + 1)))
     candidate-own j e g =
         let one : i ≡ suc (i - 1) = omega arith in
         let sum : i ≡ i - 1 + 1 = omega arith in
         let item = interfaces-found laid strings blob r (i - 1) j finds e in
         index {after = j + 1} (ap (get_elem? (base_indices v (r - 2))) one ∙ interface-item (i - 1) ∙ item.2 ∙ ap some (sym g)) (omega (arith, item.0)) (sum ∙ interfaces-passed laid strings blob r (i - 1) j finds e)
 
-    pub candidate-past : found ≡ NoRow → CandidateIs t l strings blob r i NoCandidate
+    pub candidate-past : found ≡ None → CandidateIs t l strings blob r i None
     candidate-past e =
         let one : i ≡ suc (i - 1) = omega arith in
         past (ap (get_elem? (base_indices v (r - 2))) one ∙ interface-item (i - 1) ∙ interfaces-missed laid strings blob r (i - 1) finds e)
@@ -190,20 +183,20 @@ module _ {t l : List ℕ} (laid : Laid t l) (strings blob : List ℕ) (r : ℕ) 
 
   -- Past all of them none is found.
   pub never-found : {b b' : List ℕ} {at : ℕ} (nth : ℕ) (p : Place) → rows_at l columns.impl_class + 1 ≤ nth
-      → Said b at b' (get_elem? (base_types v (r - 2)) nth) (place_says p) → p ≡ Missing
-  never-found nth Missing h s = refl
-  never-found nth (Next at) h s =
+      → Said b at b' (get_elem? (base_types v (r - 2)) nth) (place_says p) → p ≡ None
+  never-found nth None h s = refl
+  never-found nth (Some at) h s =
       absurd (none-ne-some _ (sym (item-past (base_types v (r - 2)) nth (omega (arith, bases-most))) ∙ (said-some s).is))
 
 -- What a candidate that was matched says.
 module _ {t l strings blob : List ℕ} {r i : ℕ} where
-  pub candidate-index : {x after : ℕ} → CandidateIs t l strings blob r i (Index x after)
+  pub candidate-index : {x after : ℕ} → CandidateIs t l strings blob r i (Some (x, after))
       → (get_elem? (base_indices (view_in t l strings blob) (r - 2)) i ≡ some x)
       × (after ≤ rows_at l columns.impl_class)
       × (i ≡ keyed (cell t l columns.impl_class) r after)
   candidate-index (index e a k) = (e, a, k)
 
-  pub candidate-none : CandidateIs t l strings blob r i NoCandidate → get_elem? (base_indices (view_in t l strings blob) (r - 2)) i ≡ none
+  pub candidate-none : CandidateIs t l strings blob r i None → get_elem? (base_indices (view_in t l strings blob) (r - 2)) i ≡ none
   candidate-none (past e) = e
 
 -- ---- The search for a base type
@@ -245,15 +238,15 @@ module _ {t l strings blob : List ℕ} {r nth : ℕ} {b₀ : List ℕ} {at : ℕ
     search-seen = omega (arith, s.counted, among-most (view_in t l strings blob) (r - 2) i)
 
     -- A candidate has been rendered.
-    module _ {b' : List ℕ} {x after : ℕ} (c : CandidateIs t l strings blob r i (Index x after)) where
-      pub search-more : {at' : ℕ} → (seen ≡ nth → ⊥) → Said b at b' (type_name_in (view_in t l strings blob) (r - 2) x) (some at')
+    module _ {b' : List ℕ} {x after : ℕ} (c : CandidateIs t l strings blob r i (Some (x, after))) where
+      pub search-more : {at' : ℕ} → seen + 1 ≤ nth → Said b at b' (type_name_in (view_in t l strings blob) (r - 2) x) (some at')
           → Searching t l strings blob r nth b₀ at b' (i + 1) (seen + 1) after i
       search-more n said =
           let is = candidate-index c in
           let name = said-some said in
           record {
             counted = ap (λ (m : ℕ). m + 1) s.counted ∙ among-named (view_in t l strings blob) (r - 2) i is.0 name.is;
-            few = omega (arith, s.few);
+            few = n;
             within = is.1;
             own = is.2;
             less = omega arith;
@@ -274,9 +267,10 @@ module _ {t l strings blob : List ℕ} {r nth : ℕ} {b₀ : List ℕ} {at : ℕ
           }
 
       -- The one that was looked for.
-      pub search-found : {at' key : ℕ} → key ≡ r → seen ≡ nth → Said b at b' (type_name_in (view_in t l strings blob) (r - 2) x) (some at')
+      pub search-found : {at' key : ℕ} → key ≡ r → nth < seen + 1 → Said b at b' (type_name_in (view_in t l strings blob) (r - 2) x) (some at')
           → Said b₀ at b' (get_elem? (base_types (view_in t l strings blob) (r - 2)) nth) (some at') × KnowsBases (view_in t l strings blob) (record { row = key; seen = seen + 1; tried = i + 1 })
-      search-found {at'} {key} k q said =
+      search-found {at'} {key} k h said =
+          let q : seen ≡ nth = omega (arith, s.few, h) in
           let is = candidate-index c in
           let name = said-some said in
           let item : get_elem? (base_types (view_in t l strings blob) (r - 2)) nth ≡ some name.text =
@@ -286,23 +280,24 @@ module _ {t l strings blob : List ℕ} {r nth : ℕ} {b₀ : List ℕ} {at : ℕ
                 (ap (λ (m : ℕ). m + 1) s.counted ∙ among-named (view_in t l strings blob) (r - 2) i is.0 name.is),
           )
 
-    -- All candidates have been tried.
-    pub search-over : {key : ℕ} → key ≡ r → length (base_indices (view_in t l strings blob) (r - 2)) ≤ i
-        → Said b₀ at b (get_elem? (base_types (view_in t l strings blob) (r - 2)) nth) none
-        × KnowsBases (view_in t l strings blob) (record { row = key; seen = seen; tried = i })
-        × (seen ≡ length (base_types (view_in t l strings blob) (r - 2)))
-    search-over {key} k h =
-        let all : seen ≡ length (base_types (view_in t l strings blob) (r - 2)) = s.counted ∙ ap length (among-all (view_in t l strings blob) (r - 2) i h) in (
-          rw (item-past (base_types (view_in t l strings blob) (r - 2)) nth (omega (arith, s.few))) (missing s.keeps),
-          knows-so-many (view_in t l strings blob) key r seen i k s.counted,
-          all,
-        )
+    -- All candidates have been tried, of which there are no more than so many.
+    module _ {last : ℕ} (most : length (base_indices (view_in t l strings blob) (r - 2)) ≤ last) where
+      pub search-over : {key : ℕ} → key ≡ r → length (base_indices (view_in t l strings blob) (r - 2)) ≤ i
+          → Said b₀ at b (get_elem? (base_types (view_in t l strings blob) (r - 2)) nth) none
+          × KnowsBases (view_in t l strings blob) (record { row = key; seen = seen; tried = last })
+          × (seen ≡ length (base_types (view_in t l strings blob) (r - 2)))
+      search-over {key} k h =
+          let all : seen ≡ length (base_types (view_in t l strings blob) (r - 2)) = s.counted ∙ ap length (among-all (view_in t l strings blob) (r - 2) i h) in (
+            rw (item-past (base_types (view_in t l strings blob) (r - 2)) nth (omega (arith, s.few))) (missing s.keeps),
+            knows-so-many (view_in t l strings blob) key r seen last k (all ∙ sym (ap length (among-all (view_in t l strings blob) (r - 2) last most))),
+            all,
+          )
 
-    pub search-past : {key : ℕ} → key ≡ r → CandidateIs t l strings blob r i NoCandidate
-        → Said b₀ at b (get_elem? (base_types (view_in t l strings blob) (r - 2)) nth) none
-        × KnowsBases (view_in t l strings blob) (record { row = key; seen = seen; tried = i })
-        × (seen ≡ length (base_types (view_in t l strings blob) (r - 2)))
-    search-past k c = search-over k (item-none (base_indices (view_in t l strings blob) (r - 2)) i (candidate-none c))
+      pub search-past : {key : ℕ} → key ≡ r → CandidateIs t l strings blob r i None
+          → Said b₀ at b (get_elem? (base_types (view_in t l strings blob) (r - 2)) nth) none
+          × KnowsBases (view_in t l strings blob) (record { row = key; seen = seen; tried = last })
+          × (seen ≡ length (base_types (view_in t l strings blob) (r - 2)))
+      search-past k c = search-over k (item-none (base_indices (view_in t l strings blob) (r - 2)) i (candidate-none c))
 
 -- ---- Passing over all base types
 
@@ -352,8 +347,8 @@ module _ {t l strings blob : List ℕ} {r steps : ℕ} where
   pass-start = record { paid = omega arith; within = omega arith; own = keyed-none _ _; less = omega arith }
 
   module _ {i from passed have : ℕ} (s : Passing t l strings blob r steps i from passed have) where
-    module _ {x after : ℕ} (c : CandidateIs t l strings blob r i (Index x after)) {rest : Steps} (takes : Takes (type_steps_in (view_in t l strings blob) (r - 2) x) have rest) where
-      pub pass-more : {k : ℕ} → rest ≡ Left k → Passing t l strings blob r steps (i + 1) after i k
+    module _ {x after : ℕ} (c : CandidateIs t l strings blob r i (Some (x, after))) {rest : Steps} (takes : Takes (type_steps_in (view_in t l strings blob) (r - 2) x) have rest) where
+      pub pass-more : {k : ℕ} → rest ≡ Some k → Passing t l strings blob r steps (i + 1) after i k
       pass-more e =
           let is = candidate-index c in
           record {
@@ -363,13 +358,13 @@ module _ {t l strings blob : List ℕ} {r steps : ℕ} where
             less = omega arith;
           }
 
-      pub pass_spent : rest ≡ Spent → Takes (base_steps (view_in t l strings blob) (r - 2)) steps Spent
+      pub pass_spent : rest ≡ None → Takes (base_steps (view_in t l strings blob) (r - 2)) steps None
       pass_spent e =
           let is = candidate-index c in
           spent (omega (arith, s.paid, takes-spent takes e, steps-least (view_in t l strings blob) (r - 2) i is.0))
 
-    pub pass_all : length (base_indices (view_in t l strings blob) (r - 2)) ≤ i → Takes (base_steps (view_in t l strings blob) (r - 2)) steps (Left have)
+    pub pass_all : length (base_indices (view_in t l strings blob) (r - 2)) ≤ i → Takes (base_steps (view_in t l strings blob) (r - 2)) steps (Some have)
     pass_all h = left {rest = have} (omega (arith, s.paid, steps_all (view_in t l strings blob) (r - 2) i h))
 
-    pub pass-past : CandidateIs t l strings blob r i NoCandidate → Takes (base_steps (view_in t l strings blob) (r - 2)) steps (Left have)
+    pub pass-past : CandidateIs t l strings blob r i None → Takes (base_steps (view_in t l strings blob) (r - 2)) steps (Some have)
     pass-past c = pass_all (item-none (base_indices (view_in t l strings blob) (r - 2)) i (candidate-none c))

@@ -4,10 +4,9 @@
 
 #![tactic(auto)]
 
-ghost use Rattle.std.specs.Prelude.{◌≡◌, List, ℕ, ◌-◌, ◌<◌, ◌≤◌, length};
+ghost use Rattle.std.specs.Prelude.{◌≡◌, List, ℕ, ◌-◌, ◌<◌, ◌≤◌, length, None};
 ghost use Rattle.std.proofs.Math.ListN.{get_elem?};
 ghost use Rattle.buffers.specs.Writes.{Said, place_says};
-ghost use Rattle.buffers.specs.declared.Place.TheVariants.{Missing};
 ghost use Rattle.classes.specs.Numbering.{class_of};
 ghost use Rattle.record.specs.View.{View};
 ghost use Rattle.record.specs.Names.{type_name_in, type_steps_in, base_types, base_steps};
@@ -17,19 +16,16 @@ ghost use Rattle.rows.specs.Held.{keyed};
 ghost use Rattle.steps.specs.Counting.{Takes};
 ghost use Rattle.bases.specs.Candidates.{KnowsBases, CandidateIs};
 
-use buffers::Place;
 use classes::TypeDefRow;
-use keys::Row;
 use numbers::wide;
 use rows::columns;
-use sig_leaves::{LEVELS, Owner};
-use steps::Steps;
+use sig_leaves::LEVELS;
 
 // More base types than any class has.
 const NEVER: usize = 0xFFFF_FFFF_FFFF;
 
 // What is known of the base types of the class at a TypeDef row: how many have been seen, and among how many candidates. Row 0 is none.
-#[derive(Clone, Copy)]
+#[derive(Clone, Copy, Debug, PartialEq, Eq)]
 pub struct Bases {
     pub row: usize,
     pub seen: usize,
@@ -37,17 +33,10 @@ pub struct Bases {
 }
 
 // What the search for a base type came to, and what is known after it.
-#[derive(Drop)]
+#[derive(Clone, Copy, Debug, PartialEq, Eq)]
 pub struct Based {
-    pub place: Place,
+    pub place: Option<usize>,
     pub bases: Bases,
-}
-
-// A candidate as a TypeDefOrRef index, and the place of InterfaceImpl behind its row.
-#[derive(Drop)]
-pub enum Candidate {
-    Index(u32, usize),
-    NoCandidate,
 }
 
 // Nothing is known.
@@ -65,10 +54,8 @@ pub fn no_bases() -> Bases
 fn bases_before(row: usize, nth: usize, known: Bases) -> Bases
     ensures { ((v : View) → KnowsBases v known → KnowsBases v result) × (result.row ≡ row) × (result.seen ≤ nth) }
 {
-    if known.row == row {
-        if known.seen <= nth {
-            return known;
-        }
+    if known.row == row && known.seen <= nth {
+        return known;
     }
     Bases {
         row,
@@ -85,7 +72,7 @@ fn candidate_at(
     i: usize,
     from: usize,
     passed: usize,
-) -> Candidate
+) -> Option<(u32, usize)>
     requires laid { Laid tables.now layout.now }
     requires lt_row { (1 < row.0) × (row.0 ≤ rows_at layout.now columns.type_name) }
     requires from_bound { (from ≤ rows_at layout.now columns.impl_class) × (passed ≤ i - 1)
@@ -95,9 +82,9 @@ fn candidate_at(
     if i == 0 {
         let place = wide(row.0) - 1;
         let extended = rows::read_column(tables, layout, columns::EXTENDS, place);
-        return Candidate::Index(extended, 0);
+        return Some((extended, 0));
     }
-    match keys::find_key_from(
+    let own = keys::find_key_from(
         tables,
         layout,
         columns::IMPL_CLASS,
@@ -105,13 +92,9 @@ fn candidate_at(
         i - 1,
         from,
         passed,
-    ) {
-        Row::At(own) => {
-            let interface = rows::read_column(tables, layout, columns::IMPL_INTERFACE, own);
-            Candidate::Index(interface, own + 1)
-        }
-        Row::NoRow => Candidate::NoCandidate,
-    }
+    )?;
+    let interface = rows::read_column(tables, layout, columns::IMPL_INTERFACE, own);
+    Some((interface, own + 1))
 }
 
 // Append the name behind a TypeDefOrRef index that stands in a row of a class.
@@ -124,24 +107,15 @@ fn push_type(
     layout: &[u32],
     row: TypeDefRow,
     index: u32,
-) -> Place
+) -> Option<usize>
     requires laid { Laid tables.now layout.now }
     requires lt_row { 1 < row.0 }
     ensures { let v = view_in tables.now layout.now strings.now blob.now in
         Said buf.old at buf.new (type_name_in v (class_of row) index) (place_says result) }
 {
-    let class = Owner::Of(2 * wide(row.0));
+    let class = Some(2 * wide(row.0));
     signatures::get_type_fullname(
-        buf,
-        at,
-        tables,
-        strings,
-        blob,
-        layout,
-        class,
-        Owner::Nobody,
-        index,
-        LEVELS,
+        buf, at, tables, strings, blob, layout, class, None, index, LEVELS,
     )
 }
 
@@ -162,60 +136,42 @@ pub fn push_base(
     requires knows_bases { KnowsBases (view_in tables.now layout.now strings.now blob.now) known }
     ensures { let v = view_in tables.now layout.now strings.now blob.now in
         Said buf.old at buf.new (get_elem? (base_types v (class_of row)) nth) (place_says result.place) ×
-        KnowsBases v result.bases × (result.place ≡ Missing → result.bases.seen ≡ length (base_types v (class_of row))) }
+        KnowsBases v result.bases × (result.place ≡ None → result.bases.seen ≡ length (base_types v (class_of row))) }
 {
     let key = wide(row.0);
     let start = bases_before(key, nth, known);
     let n = rows::count_rows(layout, columns::IMPL_CLASS);
-    let mut i = start.tried;
     let mut seen = start.seen;
     let mut from = 0;
     let mut passed = 0;
-    while i <= n {
-        match candidate_at(tables, layout, row, i, from, passed) {
-            Candidate::Index(index, after) => {
-                from = after;
-                passed = i;
-                i += 1;
-                match push_type(buf, at, tables, strings, blob, layout, row, index) {
-                    Place::Next(end) => {
-                        if seen == nth {
-                            let bases = Bases {
-                                row: key,
-                                seen: seen + 1,
-                                tried: i,
-                            };
-                            return Based {
-                                place: Place::Next(end),
-                                bases,
-                            };
-                        }
-                        seen += 1;
-                    }
-                    Place::Missing => {}
-                }
-            }
-            Candidate::NoCandidate => {
-                let bases = Bases {
+    for i in start.tried..n + 1 {
+        let Some((index, after)) = candidate_at(tables, layout, row, i, from, passed) else {
+            break;
+        };
+        from = after;
+        passed = i;
+        let Some(end) = push_type(buf, at, tables, strings, blob, layout, row, index) else {
+            continue;
+        };
+        seen += 1;
+        if nth < seen {
+            return Based {
+                place: Some(end),
+                bases: Bases {
                     row: key,
                     seen,
-                    tried: i,
-                };
-                return Based {
-                    place: Place::Missing,
-                    bases,
-                };
-            }
+                    tried: i + 1,
+                },
+            };
         }
     }
-    let bases = Bases {
-        row: key,
-        seen,
-        tried: i,
-    };
     Based {
-        place: Place::Missing,
-        bases,
+        place: None,
+        bases: Bases {
+            row: key,
+            seen,
+            tried: n + 1,
+        },
     }
 }
 
@@ -244,8 +200,7 @@ pub fn count_bases(
         NEVER,
         no_bases(),
     );
-    let bases = based.bases;
-    bases.seen
+    based.bases.seen
 }
 
 // What passing over the type behind a TypeDefOrRef index that stands in a row of a class takes of the steps.
@@ -257,23 +212,15 @@ fn pass_base(
     row: TypeDefRow,
     index: u32,
     steps: u64,
-) -> Steps
+) -> Option<u64>
     requires laid { Laid tables.now layout.now }
     requires lt_row { 1 < row.0 }
     ensures { let v = view_in tables.now layout.now strings.now blob.now in
         Takes (type_steps_in v (class_of row) index) steps result }
 {
-    let class = Owner::Of(2 * wide(row.0));
+    let class = Some(2 * wide(row.0));
     let passed = passing::pass_name(
-        tables,
-        strings,
-        blob,
-        layout,
-        class,
-        Owner::Nobody,
-        index,
-        LEVELS,
-        steps,
+        tables, strings, blob, layout, class, None, index, LEVELS, steps,
     );
     passing::steps_left(passed)
 }
@@ -286,36 +233,23 @@ pub fn pass_bases(
     layout: &[u32],
     row: TypeDefRow,
     steps: u64,
-) -> Steps
+) -> Option<u64>
     requires laid { Laid tables.now layout.now }
     requires lt_row { (1 < row.0) × (row.0 ≤ rows_at layout.now columns.type_name) }
     ensures { let v = view_in tables.now layout.now strings.now blob.now in
         Takes (base_steps v (class_of row)) steps result }
 {
     let n = rows::count_rows(layout, columns::IMPL_CLASS);
-    let mut i = 0;
+    let mut have = steps;
     let mut from = 0;
     let mut passed = 0;
-    let mut have = steps;
-    while i <= n {
-        match candidate_at(tables, layout, row, i, from, passed) {
-            Candidate::Index(index, after) => {
-                from = after;
-                passed = i;
-                i += 1;
-                match pass_base(tables, strings, blob, layout, row, index, have) {
-                    Steps::Left(left) => {
-                        have = left;
-                    }
-                    Steps::Spent => {
-                        return Steps::Spent;
-                    }
-                }
-            }
-            Candidate::NoCandidate => {
-                return Steps::Left(have);
-            }
-        }
+    for i in 0..n + 1 {
+        let Some((index, after)) = candidate_at(tables, layout, row, i, from, passed) else {
+            break;
+        };
+        from = after;
+        passed = i;
+        have = pass_base(tables, strings, blob, layout, row, index, have)?;
     }
-    Steps::Left(have)
+    Some(have)
 }

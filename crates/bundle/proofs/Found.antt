@@ -1,6 +1,7 @@
 -- Streams are found in the input that they make: the first half of what `Opens` says. Assumes nothing.
 use mathlib.Core.Path.{◌≡◌, sym, ap, ◌∙◌}
 use mathlib.Core.List.{List, [], ◌∷◌, ◌++◌, append_assoc}
+use Rattle.std.specs.Prelude.{Some}
 use Prim.Native.Nat.{ℕ, zero, suc, ◌+◌, ◌*◌, ◌/◌, ◌%◌, ◌≤◌, ◌<◌}
 use native.Mathlib.Nat.{zero-add}
 use native.Mathlib.Omega.{arith}
@@ -13,8 +14,6 @@ use Rattle.buffers.specs.Texts.{Text, q, decimal}
 use Rattle.buffers.specs.Replies.{value}
 use Rattle.buffers.proofs.Decimal.{decimal-small, decimal-more}
 use Rattle.bundle.specs.Input.{digit_of, more_digits, number_line, key_line, line_at, bundle_of, bundle_says, Inputs, line_text, input_of}
-use Rattle.bundle.specs.declared.Line.TheVariants.{Value}
-use Rattle.bundle.specs.declared.Bundle.TheVariants.{Streams}
 use Rattle.bundle.proofs.Input.{digit-is, key-number, all_lines, laid-whole}
 
 digit-worth : (d : ℕ) → d ≤ 9 → digit_of (48 + d) ≡ d
@@ -57,7 +56,7 @@ read-decimal (suc k) n at t h l =
     by-lt n 10 (small-text n at t) (λ m. step-text n at t l (λ u. read-decimal k (n / 10) at u (omega arith) (omega arith)) m)
 
 -- A line is read as its number.
-line-text : (key : Text) (n at : ℕ) (t : List ℕ) → n ≤ 65536 → key_line key at (line_text key n ++ t) ≡ Value n (at + length (line_text key n))
+line-text : (key : Text) (n at : ℕ) (t : List ℕ) → n ≤ 65536 → key_line key at (line_text key n ++ t) ≡ Some (n, at + length (line_text key n))
 unfolding line_text more_digits
 line-text key n at t h =
     let x : List ℕ = (decimal n ++ (10 ∷ [])) ++ t in
@@ -66,7 +65,7 @@ line-text key n at t h =
     rw (append_assoc key (decimal n ++ (10 ∷ [])) t)
     (sym (key-number key at (key ++ x) (take-append_seam key x))
     ∙ rw (drop-append_seam key x, append_assoc (decimal n) (10 ∷ []) t) (read-decimal (suc n) n (at + length key) (10 ∷ t) (omega arith) h)
-    ∙ ap (Value n) place)
+    ∙ ap (λ (p : ℕ). Some (n, p)) place)
 
 -- Three lists after three others, each found by its place.
 module _ (a b c t n h : List ℕ) where
@@ -108,14 +107,18 @@ module _ (t n h : List ℕ) where
   abbrev start : ℕ
   start = length a + length b + length c
 
-  opened : length s ≤ 65536 → Streams (record { at = start; len = length t }) (record { at = start + length t; len = length n }) (record { at = start + length t + length n; len = length h }) ≡ bundle_of s
+  opened : length s ≤ 65536 → Some (record {
+    tables = record { at = start; len = length t };
+    strings = record { at = start + length t; len = length n };
+    blob = record { at = start + length t + length n; len = length h };
+  }) ≡ bundle_of s
   opened fits =
       let total = joined_length a b c t n h in
-      let tables : line_at (q "tables=") s 0 ≡ Value (length t) (length a)
-      = line-text (q "tables=") (length t) 0 (b ++ (c ++ (t ++ (n ++ h)))) (omega arith) ∙ ap (Value (length t)) (zero-add (length a)) in
-      let strings : line_at (q "strings=") s (length a) ≡ Value (length n) (length a + length b)
+      let tables : line_at (q "tables=") s 0 ≡ Some (length t, length a)
+      = line-text (q "tables=") (length t) 0 (b ++ (c ++ (t ++ (n ++ h)))) (omega arith) ∙ ap (λ (p : ℕ). Some (length t, p)) (zero-add (length a)) in
+      let strings : line_at (q "strings=") s (length a) ≡ Some (length n, length a + length b)
       = ap (key_line (q "strings=") (length a)) (after-a a b c t n h) ∙ line-text (q "strings=") (length n) (length a) (c ++ (t ++ (n ++ h))) (omega arith) in
-      let blob : line_at (q "blob=") s (length a + length b) ≡ Value (length h) start
+      let blob : line_at (q "blob=") s (length a + length b) ≡ Some (length h, start)
       = ap (key_line (q "blob=") (length a + length b)) (after-b a b c t n h) ∙ line-text (q "blob=") (length h) (length a + length b) (t ++ (n ++ h)) (omega arith) in
       laid-whole (length s) (length t) (length n) (length h) start (sym total) ∙ all_lines s fits tables strings blob
 

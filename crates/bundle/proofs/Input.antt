@@ -1,48 +1,34 @@
 -- Laws of the input's definition, one for each way through it. Assumes nothing.
 use mathlib.Core.Path.{◌≡◌, refl, sym, ap, ◌∙◌, subst, subst⁻¹}
-use mathlib.Core.Bool.{Bool, true, false}
 use mathlib.Core.List.{List, [], ◌∷◌}
+use Rattle.std.specs.Prelude.{Option, Some, None}
 use Prim.Native.Nat.{ℕ, suc, ◌+◌, ◌-◌, ◌*◌, ◌≤◌, ◌<◌}
 use native.Mathlib.Numerals.{add-one}
 use native.Mathlib.Nat.{add-zero}
 use native.Mathlib.Omega.{arith}
-use borrow.Author.Tests.{eq-eqb, ne_eqb, lt-ltb, le-ltb, le-leb, lt-leb}
+use borrow.Author.Tests.{eq-eqb, ne_eqb, le-ltb, le-leb, lt-leb}
 use lib.ListN.{length, get_or, take, drop, length-take, length-drop, drop_of_length-le}
 use lib.Seq.{drop-cons, drop-drop}
 use Rattle.numbers.specs.Parts.{part, cut_start, cut_length}
 use Rattle.numbers.proofs.Pick.{pick-eq, pick-le, by-lt}
 use Rattle.numbers.proofs.Parts.{cut-start, cut-length, none-length}
 use Rattle.buffers.specs.Texts.{Text, q}
-use Rattle.bundle.specs.Input.{digit_of, more_digits, number_line, key_line, number_at, line_at, laid, on_line, bundle_of, Within, bundle_says, input_in}
-use Rattle.bundle.specs.declared.Part.{Part}
-use Rattle.bundle.specs.declared.Line.{Line}
-use Rattle.bundle.specs.declared.Line.TheVariants.{Value, NoLine}
+use Rattle.bundle.specs.Input.{Line, digit_of, more_digits, number_line, key_line, number_at, line_at, laid, on_line, bundle_of}
 use Rattle.bundle.specs.declared.Bundle.{Bundle}
-use Rattle.bundle.specs.declared.Bundle.TheVariants.{Streams, Malformed}
 
 -- A byte as a digit.
-module _ (c : ℕ) where
-  pub digit_low : c < 48 → 10 ≡ digit_of c
-  unfolding digit_of
-  digit_low h = rw (lt-ltb _ _ h)
-
-  module _ (h : 48 ≤ c) where
-    pub digit-high : 57 < c → 10 ≡ digit_of c
-    unfolding digit_of
-    digit-high k = rw (le-ltb _ _ h, lt-ltb _ _ k)
-
-    pub digit-is : c ≤ 57 → c - 48 ≡ digit_of c
-    unfolding digit_of
-    digit-is k = rw (le-ltb _ _ h, le-ltb _ _ k)
+pub digit-is : (c : ℕ) → 48 ≤ c → c ≤ 57 → c - 48 ≡ digit_of c
+unfolding digit_of
+digit-is c h k = rw (le-ltb _ _ h, le-ltb _ _ k)
 
 -- The first digit of a number.
 module _ (s : List ℕ) (at : ℕ) where
-  pub number_past : length s ≤ at → NoLine ≡ number_at s at
+  pub number_past : length s ≤ at → None ≡ number_at s at
   unfolding number_line
   number_past h = rw (drop_of_length-le s h)
 
   module _ (h : at < length s) {d : ℕ} (is : d ≡ digit_of (get_or s at 0)) where
-    pub number-none : 9 < d → NoLine ≡ number_at s at
+    pub number-none : 9 < d → None ≡ number_at s at
     unfolding number_line
     number-none k = rw (drop-cons s at 0 h, ← is, lt-leb _ _ k)
 
@@ -52,30 +38,30 @@ module _ (s : List ℕ) (at : ℕ) where
 
 -- The others, in the form of the loop's invariant: the digits so far are worth n, and e is what the whole will be.
 module _ (s : List ℕ) (i n : ℕ) {e : Line} (inv : more_digits n i (drop i s) ≡ e) where
-  pub more-end : length s ≤ i → NoLine ≡ e
+  pub more-end : length s ≤ i → None ≡ e
   unfolding more_digits
-  more-end h = let q : NoLine ≡ more_digits n i (drop i s) = rw (drop_of_length-le s h) in q ∙ inv
+  more-end h = let q : None ≡ more_digits n i (drop i s) = rw (drop_of_length-le s h) in q ∙ inv
 
   module _ (h : i < length s) where
-    pub more-line : get_or s i 0 ≡ 10 → Value n (i + 1) ≡ e
+    pub more-line : get_or s i 0 ≡ 10 → Some (n, i + 1) ≡ e
     unfolding more_digits
-    more-line k = let q : Value n (i + 1) ≡ more_digits n i (drop i s) = rw (drop-cons s i 0 h, eq-eqb _ _ k) in q ∙ inv
+    more-line k = let q : Some (n, i + 1) ≡ more_digits n i (drop i s) = rw (drop-cons s i 0 h, eq-eqb _ _ k) in q ∙ inv
 
     module _ (no_line : get_or s i 0 ≡ 10 → ⊥) where
-      pub more-zero : n ≡ 0 → NoLine ≡ e
+      pub more-zero : n ≡ 0 → None ≡ e
       unfolding more_digits
-      more-zero k = let q : NoLine ≡ more_digits n i (drop i s) = rw (drop-cons s i 0 h) (simp (ne_eqb _ _ no_line, eq-eqb _ _ k)) in q ∙ inv
+      more-zero k = let q : None ≡ more_digits n i (drop i s) = rw (drop-cons s i 0 h) (simp (ne_eqb _ _ no_line, eq-eqb _ _ k)) in q ∙ inv
 
       module _ (no_zero : n ≡ 0 → ⊥) {d : ℕ} (is : d ≡ digit_of (get_or s i 0)) where
-        pub more-none : 9 < d → NoLine ≡ e
+        pub more-none : 9 < d → None ≡ e
         unfolding more_digits
-        more-none k = let q : NoLine ≡ more_digits n i (drop i s) = rw (drop-cons s i 0 h) (simp (ne_eqb _ _ no_line, ne_eqb _ _ no_zero, sym is, lt-leb _ _ k)) in q ∙ inv
+        more-none k = let q : None ≡ more_digits n i (drop i s) = rw (drop-cons s i 0 h) (simp (ne_eqb _ _ no_line, ne_eqb _ _ no_zero, sym is, lt-leb _ _ k)) in q ∙ inv
 
         module _ (k : d ≤ 9) where
-          pub more-over : 65536 < n * 10 + d → NoLine ≡ e
+          pub more-over : 65536 < n * 10 + d → None ≡ e
           unfolding more_digits
           more-over l =
-              let q : NoLine ≡ more_digits n i (drop i s) = rw (drop-cons s i 0 h) (simp (ne_eqb _ _ no_line, ne_eqb _ _ no_zero, sym is, le-leb _ _ k, lt-leb _ _ l)) in q ∙ inv
+              let q : None ≡ more_digits n i (drop i s) = rw (drop-cons s i 0 h) (simp (ne_eqb _ _ no_line, ne_eqb _ _ no_zero, sym is, le-leb _ _ k, lt-leb _ _ l)) in q ∙ inv
 
           pub more-digit : n * 10 + d ≤ 65536 → more_digits (n * 10 + d) (i + 1) (drop (i + 1) s) ≡ e
           unfolding more_digits
@@ -94,12 +80,12 @@ key-number (k ∷ key) at (c ∷ s) e =
     let place : at + suc (length key) ≡ at + 1 + length key = omega arith in
     rw (eq-eqb _ _ first, place) (key-number key (at + 1) s others)
 
-key-none : (key : Text) (at : ℕ) (s : List ℕ) → (take (length key) s ≡ key → ⊥) → NoLine ≡ key_line key at s
+key-none : (key : Text) (at : ℕ) (s : List ℕ) → (take (length key) s ≡ key → ⊥) → None ≡ key_line key at s
 unfolding key_line
 key-none [] at s other = absurd (other refl)
 key-none (k ∷ key) at [] other = refl
 key-none (k ∷ key) at (c ∷ s) other =
-    pick-eq (λ (l : Line). NoLine ≡ l) c k (λ e. key-none key (at + 1) s (λ f. other (cc))) (λ _. refl)
+    pick-eq (λ (l : Line). None ≡ l) c k (λ e. key-none key (at + 1) s (λ f. other (cc))) (λ _. refl)
 
 -- The same, by the cut that the code compares with the key. A cut past the end is empty, and so is then a key that equals it.
 module _ (s : List ℕ) (at : ℕ) (key : Text) where
@@ -130,75 +116,39 @@ module _ (s : List ℕ) (at : ℕ) (key : Text) where
     pub line-key : r ≡ key → number_at s (at + length key) ≡ line_at key s at
     line-key e = rw (drop-drop (length key) at s) at (key-number key at (drop at s) (cut-key (sym cut ∙ e)))
 
-    pub line-none : (r ≡ key → ⊥) → NoLine ≡ line_at key s at
+    pub line-none : (r ≡ key → ⊥) → None ≡ line_at key s at
     line-none other = key-none key at (drop at s) (λ e. other (cut ∙ key-cut e))
 
-pub no_true : {b : Bool} → b ≡ true → b ≡ false → ⊥
-no_true p n = let z : ◌≡◌ {A = ℕ} 0 1 = cc in omega arith
+-- The way through the whole input that finds its lines.
+pub all_lines : (s : List ℕ) {tables second strings third blob start : ℕ} → length s ≤ 65536
+    → line_at (q "tables=") s 0 ≡ Some (tables, second) → line_at (q "strings=") s second ≡ Some (strings, third)
+    → line_at (q "blob=") s third ≡ Some (blob, start) → laid (length s) tables strings blob start ≡ bundle_of s
+unfolding bundle_of on_line
+all_lines s h e f g = rw (le-leb _ _ h, e, f, g)
 
--- What a line's contract tells once its answer is matched.
-pub told : {line r l : Line} {P : Type 0} → (r ≡ line) × P → r ≡ l → line ≡ l
-told said e = sym said.0 ∙ e
-
--- The ways through the whole input.
-module _ (s : List ℕ) where
-  pub too_long : 65536 < length s → Malformed ≡ bundle_of s
-  unfolding bundle_of
-  too_long h = rw (lt-leb _ _ h)
-
-  module _ (h : length s ≤ 65536) where
-    pub no-tables : line_at (q "tables=") s 0 ≡ NoLine → Malformed ≡ bundle_of s
-    unfolding bundle_of on_line
-    no-tables e = rw (le-leb _ _ h, e)
-
-    module _ {tables second : ℕ} (e : line_at (q "tables=") s 0 ≡ Value tables second) where
-      pub no-strings : line_at (q "strings=") s second ≡ NoLine → Malformed ≡ bundle_of s
-      unfolding bundle_of on_line
-      no-strings f = rw (le-leb _ _ h, e, f)
-
-      module _ {strings third : ℕ} (f : line_at (q "strings=") s second ≡ Value strings third) where
-        pub no-blob : line_at (q "blob=") s third ≡ NoLine → Malformed ≡ bundle_of s
-        unfolding bundle_of on_line
-        no-blob g = rw (le-leb _ _ h, e, f, g)
-
-        pub all_lines : {blob start : ℕ} → line_at (q "blob=") s third ≡ Value blob start → laid (length s) tables strings blob start ≡ bundle_of s
-        unfolding bundle_of on_line
-        all_lines g = rw (le-leb _ _ h, e, f, g)
-
-module _ (total tables strings blob at : ℕ) where
-  pub laid-whole : at + tables + strings + blob ≡ total
-      → Streams (record { at = at; len = tables }) (record { at = at + tables; len = strings }) (record { at = at + tables + strings; len = blob }) ≡ laid total tables strings blob at
-  unfolding laid
-  laid-whole e = rw (eq-eqb _ _ e)
-
-  pub laid-not : (at + tables + strings + blob ≡ total → ⊥) → Malformed ≡ laid total tables strings blob at
-  unfolding laid
-  laid-not e = rw (ne_eqb _ _ e)
-
--- What `lay` asks for holds after three lines.
-pub lines_fit : {total : ℕ} {p q r : Line} {tables second strings third blob start : ℕ} → total ≤ 65536
-    → Within total p → p ≡ Value tables second → Within total q → q ≡ Value strings third → Within total r → r ≡ Value blob start
-    → (tables ≤ 65536) × (strings ≤ 65536) × (blob ≤ 65536) × (start ≤ 65536)
-lines_fit {total} h p e q f r g =
-    let p' = subst (Within total) e p in
-    let q' = subst (Within total) f q in
-    let r' = subst (Within total) g r in
-    (p'.0, q'.0, r'.0, omega arith)
+pub laid-whole : (total tables strings blob at : ℕ) → at + tables + strings + blob ≡ total
+    → Some (record {
+      tables = record { at = at; len = tables };
+      strings = record { at = at + tables; len = strings };
+      blob = record { at = at + tables + strings; len = blob };
+    }) ≡ laid total tables strings blob at
+unfolding laid
+laid-whole total tables strings blob at e = rw (eq-eqb _ _ e)
 
 -- The streams lie in the input.
-abbrev Inside : ℕ → Bundle → Type 0
-Inside total Malformed = Unit {0}
-Inside total (Streams t n b) = (t.at + t.len ≤ total) × (n.at + n.len ≤ total) × (b.at + b.len ≤ total)
+abbrev Inside : ℕ → Option Bundle → Type 0
+Inside total None = Unit {0}
+Inside total (Some b) = (b.tables.at + b.tables.len ≤ total) × (b.strings.at + b.strings.len ≤ total) × (b.blob.at + b.blob.len ≤ total)
 
 laid-inside : (total tables strings blob at : ℕ) → Inside total (laid total tables strings blob at)
 unfolding laid
 laid-inside total tables strings blob at =
     pick-eq (Inside total) (at + tables + strings + blob) total (λ e. (omega arith, omega arith, omega arith)) (λ _. tt)
 
-line-inside : (total : ℕ) (l : Line) (next : ℕ → ℕ → Bundle) → ((n at : ℕ) → Inside total (next n at)) → Inside total (on_line l next)
+line-inside : (total : ℕ) (l : Line) (next : ℕ → ℕ → Option Bundle) → ((n at : ℕ) → Inside total (next n at)) → Inside total (on_line l next)
 unfolding on_line
-line-inside total NoLine next f = tt
-line-inside total (Value n at) next f = f n at
+line-inside total None next f = tt
+line-inside total (Some line) next f = f line.0 line.1
 
 bundle-inside : (s : List ℕ) → Inside (length s) (bundle_of s)
 unfolding bundle_of
@@ -207,10 +157,6 @@ bundle-inside s =
     (λ _. line-inside _ _ _ λ tables second. line-inside _ _ _ λ strings third. line-inside _ _ _ λ blob start. laid-inside _ _ _ _ _)
     (λ _. tt)
 
-pub streams-within : (s : List ℕ) {t n b : Part} → Streams t n b ≡ bundle_of s
-    → (t.at + t.len ≤ length s) × (n.at + n.len ≤ length s) × (b.at + b.len ≤ length s)
+pub streams-within : (s : List ℕ) {b : Bundle} → Some b ≡ bundle_of s
+    → (b.tables.at + b.tables.len ≤ length s) × (b.strings.at + b.strings.len ≤ length s) × (b.blob.at + b.blob.len ≤ length s)
 streams-within s e = subst⁻¹ (Inside (length s)) e (bundle-inside s)
-
--- An answer that is the definition's says what the input says.
-pub says-and-is : (s : List ℕ) {r : Bundle} → r ≡ bundle_of s → (bundle_says s r ≡ input_in s) × (r ≡ bundle_of s)
-says-and-is s e = (ap (bundle_says s) e, e)

@@ -1,6 +1,8 @@
 -- An input in which streams are found is the one that they make: the second half of what `Opens` says. Assumes nothing.
 use mathlib.Core.Path.{◌≡◌, refl, sym, ap, ◌∙◌}
 use mathlib.Core.List.{List, [], ◌∷◌, ◌++◌, append_assoc, append-nil}
+use Rattle.std.specs.Prelude.{Option, Some, None}
+use Rattle.std.specs.Option.{unwrap_or}
 use Prim.Native.Nat.{ℕ, ◌+◌, ◌*◌, ◌/◌, ◌%◌, ◌≤◌}
 use native.Mathlib.Omega.{arith}
 use lib.ListN.{length, drop, length-append, length-drop, take-append-drop}
@@ -10,11 +12,8 @@ use Rattle.numbers.proofs.Pick.{pick-lt, pick-le, pick-eq}
 use Rattle.buffers.specs.Texts.{Text, q, decimal}
 use Rattle.buffers.specs.Replies.{value}
 use Rattle.buffers.proofs.Decimal.{decimal-small, decimal-more}
-use Rattle.bundle.specs.Input.{digit_of, more_digits, number_line, key_line, line_at, laid, on_line, bundle_of, bundle_says, Inputs, line_text, input_of, Opens}
-use Rattle.bundle.specs.declared.Line.{Line}
-use Rattle.bundle.specs.declared.Line.TheVariants.{Value, NoLine}
+use Rattle.bundle.specs.Input.{Line, digit_of, more_digits, number_line, key_line, line_at, laid, on_line, bundle_of, bundle_says, Inputs, line_text, input_of, Opens}
 use Rattle.bundle.specs.declared.Bundle.{Bundle}
-use Rattle.bundle.specs.declared.Bundle.TheVariants.{Malformed}
 use Rattle.bundle.proofs.Found.{found}
 
 -- A digit is the byte that it was read from.
@@ -26,7 +25,7 @@ digit-told c =
     P : ℕ → Type 0
     P d = d ≤ 9 → 48 + d ≡ c
 
-never : {A : Type 0} {m next : ℕ} → NoLine ≡ Value m next → A
+never : {A : Type 0} {m next : ℕ} → ◌≡◌ {A = Line} None (Some (m, next)) → A
 never e = let z : ◌≡◌ {A = ℕ} 0 1 = cc in absurd (omega arith)
 
 -- Digits that go on from n and are read as m.
@@ -37,10 +36,10 @@ record Digits (n at : ℕ) (s : List ℕ) (m next : ℕ) : Type 0 where
   worth : decimal m ≡ decimal n ++ used
   place : next ≡ at + length used + 1
 
-digits-end : (n at c : ℕ) (s : List ℕ) {m next : ℕ} → c ≡ 10 → Value n (at + 1) ≡ Value m next → Digits n at (c ∷ s) m next
+digits-end : (n at c : ℕ) (s : List ℕ) {m next : ℕ} → c ≡ 10 → ◌≡◌ {A = Line} (Some (n, at + 1)) (Some (m, next)) → Digits n at (c ∷ s) m next
 digits-end n at c s {m} {next} is e =
-    let same : n ≡ m = cc in
-    let after : at + 1 ≡ next = cc in
+    let same : n ≡ m = ap (λ (l : Line). (unwrap_or l (0, 0)).0) e in
+    let after : at + 1 ≡ next = ap (λ (l : Line). (unwrap_or l (0, 0)).1) e in
     record {
       used = [];
       rest = s;
@@ -62,11 +61,11 @@ digits_more n at c s no_zero h d =
       place = omega (arith, d.place);
     }
 
-digits-told : (n at : ℕ) (s : List ℕ) (m next : ℕ) → more_digits n at s ≡ Value m next → Digits n at s m next
+digits-told : (n at : ℕ) (s : List ℕ) (m next : ℕ) → more_digits n at s ≡ Some (m, next) → Digits n at s m next
 unfolding more_digits
 digits-told n at [] m next e = never e
 digits-told n at (c ∷ s) m next e =
-    let P : Line → Type 0 = λ l. l ≡ Value m next → Digits n at (c ∷ s) m next in
+    let P : Line → Type 0 = λ l. l ≡ Some (m, next) → Digits n at (c ∷ s) m next in
     pick-eq P c 10 (λ is e. digits-end n at c s is e)
     (λ _. pick-eq P n 0 (λ _ e. never e)
     (λ no_zero. pick-le P (digit_of c) 9
@@ -80,11 +79,11 @@ record LineTold (key : Text) (at : ℕ) (s : List ℕ) (m next : ℕ) : Type 0 w
   text : s ≡ line_text key m ++ rest
   place : next ≡ at + length (line_text key m)
 
-number-told : (at : ℕ) (s : List ℕ) (m next : ℕ) → number_line at s ≡ Value m next → LineTold [] at s m next
+number-told : (at : ℕ) (s : List ℕ) (m next : ℕ) → number_line at s ≡ Some (m, next) → LineTold [] at s m next
 unfolding number_line line_text
 number-told at [] m next e = never e
 number-told at (c ∷ s) m next e =
-    pick-le (λ (l : Line). l ≡ Value m next → LineTold [] at (c ∷ s) m next) (digit_of c) 9
+    pick-le (λ (l : Line). l ≡ Some (m, next) → LineTold [] at (c ∷ s) m next) (digit_of c) 9
     (λ h e.
     let d = digits-told (digit_of c) (at + 1) s m next e in
     let digits : decimal m ≡ c ∷ d.used = d.worth ∙ ap (λ (l : List ℕ). l ++ d.used) (decimal-small (digit_of c) (omega arith)) ∙ ap (λ (x : ℕ). x ∷ d.used) (digit-told c h) in
@@ -96,12 +95,12 @@ number-told at (c ∷ s) m next e =
     (λ _ e. never e)
     e
 
-line-told : (key : Text) (at : ℕ) (s : List ℕ) (m next : ℕ) → key_line key at s ≡ Value m next → LineTold key at s m next
+line-told : (key : Text) (at : ℕ) (s : List ℕ) (m next : ℕ) → key_line key at s ≡ Some (m, next) → LineTold key at s m next
 unfolding key_line line_text
 line-told [] at s m next e = number-told at s m next e
 line-told (k ∷ key) at [] m next e = never e
 line-told (k ∷ key) at (c ∷ s) m next e =
-    pick-eq (λ (l : Line). l ≡ Value m next → LineTold (k ∷ key) at (c ∷ s) m next) c k
+    pick-eq (λ (l : Line). l ≡ Some (m, next) → LineTold (k ∷ key) at (c ∷ s) m next) c k
     (λ is e.
     let l = line-told key (at + 1) s m next e in
     record {
@@ -113,7 +112,7 @@ line-told (k ∷ key) at (c ∷ s) m next e =
     e
 
 -- So what stands at a line's place is the line, and then what stands at the place after it.
-line-stands : (key : Text) (s : List ℕ) (at : ℕ) {m next : ℕ} → line_at key s at ≡ Value m next → drop at s ≡ line_text key m ++ drop next s
+line-stands : (key : Text) (s : List ℕ) (at : ℕ) {m next : ℕ} → line_at key s at ≡ Some (m, next) → drop at s ≡ line_text key m ++ drop next s
 line-stands key s at {m} {next} e =
     let l = line-told key at (drop at s) m next e in
     let after : drop next s ≡ l.rest =
@@ -136,7 +135,7 @@ module _ (s : List ℕ) (start t n h : ℕ) (total : start + t + n + h ≡ lengt
   part_length at m k = length-take-le m (drop at s) (omega (arith, length-drop at s))
 
   made_of : {second third : ℕ}
-      → line_at (q "tables=") s 0 ≡ Value t second → line_at (q "strings=") s second ≡ Value n third → line_at (q "blob=") s third ≡ Value h start
+      → line_at (q "tables=") s 0 ≡ Some (t, second) → line_at (q "strings=") s second ≡ Some (n, third) → line_at (q "blob=") s third ≡ Some (h, start)
       → s ≡ input_of (record { tables = part s start t; strings = part s (start + t) n; blob = part s (start + t + n) h })
   unfolding input_of
   made_of e f g =
@@ -146,10 +145,10 @@ module _ (s : List ℕ) (start t n h : ℕ) (total : start + t + n + h ≡ lengt
       ∙ ap (λ (x : List ℕ). line_text (q "strings=") n ++ x) (line-stands (q "blob=") s _ g
       ∙ ap (λ (x : List ℕ). line_text (q "blob=") h ++ x) parts-stand)))
 
-on_line-cases : (P : Bundle → Type 0) (l : Line) {next : ℕ → ℕ → Bundle} → P Malformed → ((n at : ℕ) → l ≡ Value n at → P (next n at)) → P (on_line l next)
+on_line-cases : (P : Option Bundle → Type 0) (l : Line) {next : ℕ → ℕ → Option Bundle} → P None → ((n at : ℕ) → l ≡ Some (n, at) → P (next n at)) → P (on_line l next)
 unfolding on_line
-on_line-cases P NoLine p f = p
-on_line-cases P (Value n at) p f = f n at refl
+on_line-cases P None p f = p
+on_line-cases P (Some line) p f = f line.0 line.1 refl
 
 pub made : (s : List ℕ) (i : Inputs) → bundle_says s (bundle_of s) ≡ value i → (s ≡ input_of i) × (length s ≤ 65536)
 unfolding bundle_of laid
@@ -159,10 +158,10 @@ made s i =
     pick-eq P (start + t + n + h) (length s) (λ total is. (made_of s start t n h total e f g ∙ ap input_of (cc), fits)) (λ _. none))
     (λ _. none)
   where
-    P : Bundle → Type 0
+    P : Option Bundle → Type 0
     P b = bundle_says s b ≡ value i → (s ≡ input_of i) × (length s ≤ 65536)
 
-    none : P Malformed
+    none : P None
     none e = let z : ◌≡◌ {A = ℕ} 0 1 = cc in absurd (omega arith)
 
 pub opens : Opens

@@ -3,123 +3,102 @@
 
 #![tactic(auto)]
 
-ghost use Rattle.std.specs.Prelude.{◌≡◌, ◌≤◌, length};
+ghost use Rattle.std.specs.Prelude.{◌≡◌, ◌<◌, ◌≤◌, MatchOption, length};
 ghost use Rattle.bundle.specs.Input.{digit_of, number_at, line_at, laid, bundle_of, Within, bundle_says, input_in};
 
 // Where a stream lies in the input.
-#[derive(Drop)]
+#[derive(Clone, Copy)]
 pub struct Part {
     pub at: usize,
     pub len: usize,
 }
 
-// The tables stream, the strings heap and the blob heap; or refusal 8.
-#[derive(Drop)]
-pub enum Bundle {
-    Streams(Part, Part, Part),
-    Malformed,
+// The tables stream, the strings heap and the blob heap.
+#[derive(Clone, Copy)]
+pub struct Bundle {
+    pub tables: Part,
+    pub strings: Part,
+    pub blob: Part,
 }
 
-// A line's number and the position after the line, or that there is no such line.
-#[derive(Drop)]
-pub enum Line {
-    Value(usize, usize),
-    NoLine,
-}
-
-// What a byte is worth as a digit: 10 if it is none.
-fn digit_of(c: u8) -> usize
-    ensures { (result ≡ digit_of c) × (result ≤ 10) }
+// What a byte is worth as a digit.
+#[tactic(auto, unfolding(crate::specs::Input::digit_of))]
+fn digit_of(c: u8) -> Option<usize>
+    ensures { MatchOption result (9 < digit_of c) (λ d. (d ≡ digit_of c) × (d ≤ 9)) }
 {
-    if c < b'0' {
-        return 10;
+    match c {
+        b'0'..=b'9' => Some((c - b'0') as usize),
+        _ => None,
     }
-    if b'9' < c {
-        return 10;
-    }
-    (c - b'0') as usize
 }
 
-// A number at a position, with the end of its line.
-fn read_number(s: &[u8], at: usize) -> Line
+// A number at a position, and the position after the end of its line.
+fn read_number(s: &[u8], at: usize) -> Option<(usize, usize)>
     ensures { (result ≡ number_at s.now at) × Within (length s.now) result }
 {
     if s.len() <= at {
-        return Line::NoLine;
+        return None;
     }
-    let mut n = digit_of(s[at]);
-    if 9 < n {
-        return Line::NoLine;
-    }
-    let mut i = at + 1;
-    while i < s.len() {
+    let mut n = digit_of(s[at])?;
+    for i in at + 1..s.len() {
         if s[i] == b'\n' {
-            return Line::Value(n, i + 1);
+            return Some((n, i + 1));
         }
         if n == 0 {
-            return Line::NoLine;
+            return None;
         }
-        let d = digit_of(s[i]);
-        if 9 < d {
-            return Line::NoLine;
-        }
-        n = n * 10 + d;
+        n = n * 10 + digit_of(s[i])?;
         if 65536 < n {
-            return Line::NoLine;
+            return None;
         }
-        i += 1;
     }
-    Line::NoLine
+    None
 }
 
-// A line at a position: its key, then its number.
-fn read_line(key: &[u8], s: &[u8], at: usize) -> Line
+// The number of a line at a position, which begins with a key, and the position after the line.
+fn read_line(key: &[u8], s: &[u8], at: usize) -> Option<(usize, usize)>
     ensures { (result ≡ line_at key.now s.now at) × Within (length s.now) result }
 {
-    if check::same(numbers::cut(s, at, key.len()), key) {
-        return read_number(s, at + key.len());
+    if numbers::cut(s, at, key.len()) != key {
+        return None;
     }
-    Line::NoLine
+    read_number(s, at + key.len())
 }
 
 // The streams, one after the other from a position on, if they end where the input does.
-fn lay(total: usize, tables: usize, strings: usize, blob: usize, at: usize) -> Bundle
+#[tactic(auto, unfolding(crate::specs::Input::laid))]
+fn lay(total: usize, tables: usize, strings: usize, blob: usize, at: usize) -> Option<Bundle>
     requires { (tables ≤ 65536) × (strings ≤ 65536) × (blob ≤ 65536) × (at ≤ 65536) }
     ensures { result ≡ laid total tables strings blob at }
 {
     let second = at + tables;
     let third = second + strings;
-    if third + blob == total {
-        return Bundle::Streams(
-            Part { at, len: tables },
-            Part {
-                at: second,
-                len: strings,
-            },
-            Part {
-                at: third,
-                len: blob,
-            },
-        );
+    if third + blob != total {
+        return None;
     }
-    Bundle::Malformed
+    Some(Bundle {
+        tables: Part { at, len: tables },
+        strings: Part {
+            at: second,
+            len: strings,
+        },
+        blob: Part {
+            at: third,
+            len: blob,
+        },
+    })
 }
 
 // The whole input: what it says, and the places in it by which that is said.
-pub fn open_bundle(s: &[u8]) -> Bundle
+#[tactic(auto, unfolding(crate::specs::Input::bundle_of, crate::specs::Input::on_line))]
+pub fn open_bundle(s: &[u8]) -> Option<Bundle>
     ensures { (bundle_says s.now result ≡ input_in s.now) × (result ≡ bundle_of s.now) }
 {
     if 65536 < s.len() {
-        return Bundle::Malformed;
+        return None;
     }
-    let Line::Value(tables, second) = read_line(b"tables=", s, 0) else {
-        return Bundle::Malformed;
-    };
-    let Line::Value(strings, third) = read_line(b"strings=", s, second) else {
-        return Bundle::Malformed;
-    };
-    let Line::Value(blob, start) = read_line(b"blob=", s, third) else {
-        return Bundle::Malformed;
-    };
+    let (tables, second) = read_line(b"tables=", s, 0)?;
+    let (strings, third) = read_line(b"strings=", s, second)?;
+    let (blob, start) = read_line(b"blob=", s, third)?;
     lay(s.len(), tables, strings, blob, start)
 }

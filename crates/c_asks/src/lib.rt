@@ -6,8 +6,6 @@ ghost use Rattle.record.specs.View.{view};
 ghost use Rattle.record.specs.Allowance.{NumberedCharged, NamedCharged};
 ghost use Rattle.c_questions.specs.Asked.{options_of, number_asked, name_asked, asked_number, asked_name};
 
-use buffers::Reply;
-use c_questions::{NameAsked, NumberAsked};
 use steps::Charged;
 
 // Any call for a number, by the number of its question.
@@ -26,16 +24,13 @@ pub fn ask_number(
         NumberedCharged (asked_number (number_asked question a b) v steps) result.reply result.left }
 {
     let meant = c_questions::options_of(options);
-    match c_questions::number_asked(question, a, b) {
-        NumberAsked::Question(q) => { dotnet::ask_number(tables, strings, blob, meant, steps, q) }
-        NumberAsked::NoQuestion => {
-            let why = c_questions::refused_question(tables, meant);
-            Charged {
-                reply: Reply::No(why),
-                left: steps,
-            }
-        }
-    }
+    let Some(asked) = c_questions::number_asked(question, a, b) else {
+        return Charged {
+            reply: Err(c_questions::refused_question(tables, meant)),
+            left: steps,
+        };
+    };
+    dotnet::ask_number(tables, strings, blob, meant, steps, asked)
 }
 
 // Any call for a name, by the number of its question.
@@ -55,14 +50,12 @@ pub fn ask_name(
         NamedCharged (asked_name (name_asked question a b c) v steps) buf.old result.reply buf.new result.left }
 {
     let meant = c_questions::options_of(options);
-    match c_questions::name_asked(question, a, b, c) {
-        NameAsked::Question(q) => { dotnet::ask_name(tables, strings, blob, meant, steps, q, buf) }
-        NameAsked::NoQuestion => {
-            let why = c_questions::refused_question(tables, meant);
-            Charged {
-                reply: buffers::refuse(buf, why),
-                left: steps,
-            }
-        }
-    }
+    let Some(asked) = c_questions::name_asked(question, a, b, c) else {
+        let why = c_questions::refused_question(tables, meant);
+        return Charged {
+            reply: buffers::refuse(buf, why),
+            left: steps,
+        };
+    };
+    dotnet::ask_name(tables, strings, blob, meant, steps, asked, buf)
 }

@@ -13,7 +13,7 @@ use lines::{Cursor, Place, Step};
 
 // Where a listing goes on: the place, and the class, the method and the item that it is about. All 0 is the beginning.
 #[repr(C)]
-#[derive(Drop)]
+#[derive(Clone, Copy)]
 pub struct DnCursor {
     pub place: u32,
     pub class_number: u32,
@@ -23,13 +23,15 @@ pub struct DnCursor {
 
 // The bytes of a piece, whether the listing is done with it, and where it goes on.
 #[repr(C)]
-#[derive(Drop)]
+#[derive(Clone, Copy)]
 pub struct DnPiece {
     pub used: usize,
     pub done: usize,
     pub next: DnCursor,
 }
 
+// The same the other way round. (Both are functions, since neither type is of this crate.)
+#[tactic(auto, unfolding(record::specs::Types::look, crate::specs::Told::numbered_places))]
 fn place_of(n: u32) -> Place
     ensures { result ≡ place_of n }
 {
@@ -52,26 +54,11 @@ fn place_of(n: u32) -> Place
     }
 }
 
+// A place's number is its place among the variants.
 fn place_number(place: Place) -> u32
     ensures { result ≡ place_number place }
 {
-    match place {
-        Place::Stop => 0,
-        Place::Classes => 1,
-        Place::Class => 2,
-        Place::Flags => 3,
-        Place::Generic => 4,
-        Place::Base => 5,
-        Place::Method => 6,
-        Place::MethodFlags => 7,
-        Place::MethodGeneric => 8,
-        Place::Returns => 9,
-        Place::ParamType => 10,
-        Place::ParamName => 11,
-        Place::Done => 12,
-        Place::Packing => 13,
-        Place::Size => 14,
-    }
+    place as u32
 }
 
 fn cursor_of(c: DnCursor) -> Cursor
@@ -88,11 +75,9 @@ fn cursor_of(c: DnCursor) -> Cursor
 fn told_cursor(c: Cursor) -> DnCursor
     ensures { result ≡ told_cursor c }
 {
-    let place = c.place;
-    let class = c.class;
     DnCursor {
-        place: place_number(place),
-        class_number: class.0,
+        place: place_number(c.place),
+        class_number: c.class.0,
         method: c.method,
         item: c.i,
     }
@@ -101,20 +86,10 @@ fn told_cursor(c: Cursor) -> DnCursor
 fn told_step(step: Step) -> DnPiece
     ensures { result ≡ told_step step }
 {
-    let used = step.at;
-    let to = step.next;
-    let next = told_cursor(to);
-    if listing_steps::is_done(to) {
-        return DnPiece {
-            used,
-            done: 1,
-            next,
-        };
-    }
     DnPiece {
-        used,
-        done: 0,
-        next,
+        used: step.at,
+        done: usize::from(listing_steps::is_done(step.next)),
+        next: told_cursor(step.next),
     }
 }
 

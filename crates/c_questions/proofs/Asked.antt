@@ -3,16 +3,15 @@ use mathlib.Core.Path.{◌≡◌, refl, ap}
 use mathlib.Core.List.{List}
 use mathlib.Core.Option.{Option, none, some}
 use Prim.Native.Nat.{ℕ}
-use Rattle.buffers.specs.Replies.{refused_by, Named}
+use Rattle.buffers.specs.Replies.{Reply, refused_by, Named}
 use Rattle.buffers.specs.declared.Refusal.{Refusal}
-use Rattle.buffers.specs.declared.Reply.{Reply}
-use Rattle.buffers.specs.declared.Reply.TheVariants.{No}
 use Rattle.header.specs.Stream.{opened}
 use Rattle.header.specs.declared.Options.{Options}
 use Rattle.record.specs.View.{View, view, view_of}
 use Rattle.record.specs.Answers.{NumberCall, NameCall}
 use Rattle.record.specs.Allowance.{number_charged, name_charged, NumberedCharged, NamedCharged}
 use Rattle.c_questions.specs.Asked.{no_question, asked_number, asked_name}
+use Rattle.std.specs.Prelude.{Err}
 
 module _ (v : View) (allowance : ℕ) where
   pub asked-number : {call : NumberCall} {asked : Option NumberCall} {r : Reply} {left : ℕ} → some call ≡ asked
@@ -25,7 +24,7 @@ module _ (v : View) (allowance : ℕ) where
 
 module _ (o : Options) (t strings blob : List ℕ) (allowance : ℕ) {why : Refusal} (e : why ≡ no_question (opened o t).answer) where
   pub no_number : {asked : Option NumberCall} → none ≡ asked
-      → NumberedCharged (asked_number asked (view o t strings blob) allowance) (No why) allowance
+      → NumberedCharged (asked_number asked (view o t strings blob) allowance) (Err why) allowance
   unfolding view_of
   no_number f = rw (← f) (record { says = ap (λ (w : Refusal). refused_by w) e; leaves = refl })
 

@@ -1,24 +1,22 @@
 -- What C asks, as the record answers it: the bits of the options, and the numbers of the questions in include/dotnet_tables.h.
-use Rattle.std.specs.Prelude.{Bool, List, [], ◌∷◌, ℕ, ◌/◌, ◌%◌, eqb}
+use Rattle.std.specs.Prelude.{Bool, List, [], ◌∷◌, ℕ, ◌/◌, ◌%◌, eqb, Ok, Err}
 use Rattle.std.proofs.Math.Option.{Option, none, some}
 use Rattle.buffers.specs.Texts.{Text}
 use Rattle.buffers.specs.Replies.{refused_by}
 use Rattle.buffers.specs.declared.Refusal.{Refusal}
 use Rattle.buffers.specs.declared.Refusal.TheVariants.{NoSuchRow}
-use Rattle.header.specs.Stream.{base}
+use Rattle.header.specs.Stream.{Opened, base}
 use Rattle.header.specs.declared.Options.{Options}
-use Rattle.header.specs.declared.Opened.{Opened}
-use Rattle.header.specs.declared.Opened.TheVariants.{Refused, Ready}
 use Rattle.record.specs.View.{View}
 use Rattle.record.specs.Types.{look}
 use Rattle.record.specs.Answers.{NumberCall, ClassCount, ClassFlags, GenericCount, BaseCount, MethodCount, MethodFlags, MethodGenericCount, ParameterCount, ClassPacking, ClassSize}
 use Rattle.record.specs.Answers.{NameCall, ClassName, GenericName, BaseName, MethodName, MethodGenericName, ReturnType, ParameterType, ParameterName}
 use Rattle.record.specs.Allowance.{Charged, number_charged, name_charged}
 use Rattle.questions.specs.Questions.{number_call, name_call}
-use Rattle.c_questions.specs.declared.NumberAsked.{NumberAsked}
-use Rattle.c_questions.specs.declared.NumberAsked.TheVariants as number-asked
-use Rattle.c_questions.specs.declared.NameAsked.{NameAsked}
-use Rattle.c_questions.specs.declared.NameAsked.TheVariants as name-asked
+use Rattle.questions.specs.declared.NumberQuestion.{NumberQuestion}
+use Rattle.questions.specs.declared.NameQuestion.{NameQuestion}
+use Rattle.std.specs.Prelude.{Some, None}
+use Rattle.std.specs.declared.option.Option as std
 
 -- Whether a set of bits has the bit of that value.
 unfoldable pub has_bit : ℕ → ℕ → Bool
@@ -55,8 +53,8 @@ name_asked question a b c = look question (name_questions a b c) none
 
 -- No question has such a number: 4, after the refusals of opening.
 abbrev pub no_question : Opened → Refusal
-no_question (Refused why) = why
-no_question Ready = NoSuchRow
+no_question (Err why) = why
+no_question (Ok tt) = NoSuchRow
 
 -- What a question is answered within an allowance. One that there is not takes nothing of it.
 abbrev pub no_such : {A : Type 0} → View → ℕ → Charged A
@@ -71,10 +69,10 @@ asked_name none v allowance = no_such v allowance
 asked_name (some call) v allowance = name_charged call v allowance
 
 -- What the code found a question number to mean.
-abbrev pub number_meant : NumberAsked → Option NumberCall
-number_meant number-asked.NoQuestion = none
-number_meant (number-asked.Question q) = some (number_call q)
+abbrev pub number_meant : std.Option NumberQuestion → Option NumberCall
+number_meant None = none
+number_meant (Some q) = some (number_call q)
 
-abbrev pub name_meant : NameAsked → Option NameCall
-name_meant name-asked.NoQuestion = none
-name_meant (name-asked.Question q) = some (name_call q)
+abbrev pub name_meant : std.Option NameQuestion → Option NameCall
+name_meant None = none
+name_meant (Some q) = some (name_call q)

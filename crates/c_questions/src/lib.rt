@@ -9,27 +9,14 @@ ghost use Rattle.c_questions.specs.Asked.{has_bit, options_of, number_asked, nam
 
 use buffers::Refusal;
 use classes::ClassNumber;
-use header::{Opened, Options};
+use header::Options;
 use questions::{NameQuestion, NumberQuestion};
-
-// The call for a number that a question number means, if there is one.
-#[derive(Drop)]
-pub enum NumberAsked {
-    Question(NumberQuestion),
-    NoQuestion,
-}
-
-// The call for a name that a question number means.
-#[derive(Drop)]
-pub enum NameAsked {
-    Question(NameQuestion),
-    NoQuestion,
-}
 
 // The bits of the options that have a meaning, DN_ and the option's name.
 const TAKER: u32 = 2;
 
 // Whether a set of bits has the bit of that value.
+#[tactic(auto, unfolding(crate::specs::Asked::has_bit))]
 fn has_bit(bits: u32, bit: u32) -> bool
     requires { 0 < bit }
     ensures { result ≡ has_bit bits bit }
@@ -41,47 +28,47 @@ fn has_bit(bits: u32, bit: u32) -> bool
 pub fn options_of(bits: u32) -> Options
     ensures { result ≡ options_of bits }
 {
-    let base = header::base_options();
     Options {
-        limit: base.limit,
-        security: base.security,
         taker: has_bit(bits, TAKER),
+        ..header::base_options()
     }
 }
 
-pub fn number_asked(question: u32, a: u32, b: u32) -> NumberAsked
+#[tactic(auto, unfolding(record::specs::Types::look, crate::specs::Asked::number_questions))]
+pub fn number_asked(question: u32, a: u32, b: u32) -> Option<NumberQuestion>
     ensures { number_meant result ≡ number_asked question a b }
 {
     let class = ClassNumber(a);
     match question {
-        1 => NumberAsked::Question(NumberQuestion::ClassCount),
-        2 => NumberAsked::Question(NumberQuestion::ClassFlags(class)),
-        3 => NumberAsked::Question(NumberQuestion::GenericCount(class)),
-        4 => NumberAsked::Question(NumberQuestion::BaseCount(class)),
-        5 => NumberAsked::Question(NumberQuestion::MethodCount(class)),
-        6 => NumberAsked::Question(NumberQuestion::MethodFlags(class, b)),
-        7 => NumberAsked::Question(NumberQuestion::MethodGenericCount(class, b)),
-        8 => NumberAsked::Question(NumberQuestion::ParamCount(class, b)),
-        9 => NumberAsked::Question(NumberQuestion::ClassPacking(class)),
-        10 => NumberAsked::Question(NumberQuestion::ClassSize(class)),
-        _ => NumberAsked::NoQuestion,
+        1 => Some(NumberQuestion::ClassCount),
+        2 => Some(NumberQuestion::ClassFlags(class)),
+        3 => Some(NumberQuestion::GenericCount(class)),
+        4 => Some(NumberQuestion::BaseCount(class)),
+        5 => Some(NumberQuestion::MethodCount(class)),
+        6 => Some(NumberQuestion::MethodFlags(class, b)),
+        7 => Some(NumberQuestion::MethodGenericCount(class, b)),
+        8 => Some(NumberQuestion::ParamCount(class, b)),
+        9 => Some(NumberQuestion::ClassPacking(class)),
+        10 => Some(NumberQuestion::ClassSize(class)),
+        _ => None,
     }
 }
 
-pub fn name_asked(question: u32, a: u32, b: u32, c: u32) -> NameAsked
+#[tactic(auto, unfolding(record::specs::Types::look, crate::specs::Asked::name_questions))]
+pub fn name_asked(question: u32, a: u32, b: u32, c: u32) -> Option<NameQuestion>
     ensures { name_meant result ≡ name_asked question a b c }
 {
     let class = ClassNumber(a);
     match question {
-        101 => NameAsked::Question(NameQuestion::ClassName(class)),
-        102 => NameAsked::Question(NameQuestion::GenericName(class, b)),
-        103 => NameAsked::Question(NameQuestion::BaseName(class, b)),
-        104 => NameAsked::Question(NameQuestion::MethodName(class, b)),
-        105 => NameAsked::Question(NameQuestion::MethodGenericName(class, b, c)),
-        106 => NameAsked::Question(NameQuestion::ReturnType(class, b)),
-        107 => NameAsked::Question(NameQuestion::ParamType(class, b, c)),
-        108 => NameAsked::Question(NameQuestion::ParamName(class, b, c)),
-        _ => NameAsked::NoQuestion,
+        101 => Some(NameQuestion::ClassName(class)),
+        102 => Some(NameQuestion::GenericName(class, b)),
+        103 => Some(NameQuestion::BaseName(class, b)),
+        104 => Some(NameQuestion::MethodName(class, b)),
+        105 => Some(NameQuestion::MethodGenericName(class, b, c)),
+        106 => Some(NameQuestion::ReturnType(class, b)),
+        107 => Some(NameQuestion::ParamType(class, b, c)),
+        108 => Some(NameQuestion::ParamName(class, b, c)),
+        _ => None,
     }
 }
 
@@ -89,10 +76,7 @@ pub fn name_asked(question: u32, a: u32, b: u32, c: u32) -> NameAsked
 pub fn refused_question(tables: &[u8], options: Options) -> Refusal
     ensures { result ≡ no_question (opened options tables.now).answer }
 {
-    let header = header::read_header(tables, options);
-    let answer = header.answer;
-    match answer {
-        Opened::Refused(why) => why,
-        Opened::Ready => Refusal::NoSuchRow,
-    }
+    header::read_header(tables, options)
+        .err()
+        .unwrap_or(Refusal::NoSuchRow)
 }

@@ -4,8 +4,7 @@ use mathlib.Core.Path.{◌≡◌, ap, subst, ◌∙◌}
 use mathlib.Core.List.{List}
 use Prim.Native.Nat.{ℕ}
 use Rattle.buffers.specs.Texts.{Text}
-use Rattle.buffers.specs.Replies.{Answer, reply_says, Named}
-use Rattle.buffers.specs.declared.Reply.{Reply}
+use Rattle.buffers.specs.Replies.{Reply, Answer, reply_says, Named}
 use Rattle.header.specs.declared.Options.{Options}
 use Rattle.record.specs.View.{View, view}
 use Rattle.record.specs.Answers.{Numbered}

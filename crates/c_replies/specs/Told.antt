@@ -5,8 +5,7 @@ use Rattle.buffers.specs.Replies.{number, reason, Answer, refused, value, name_r
 use Rattle.buffers.specs.declared.Reason.{Reason}
 use Rattle.buffers.specs.declared.Reason.TheVariants.{Untold}
 use Rattle.buffers.specs.declared.Refusal.TheVariants.{NotFound}
-use Rattle.heaps.specs.Lookups.{string_at, blob_at, part_number, part_reason, part_start, part_length}
-use Rattle.heaps.specs.declared.Part.{Part}
+use Rattle.heaps.specs.Lookups.{Part, string_at, blob_at, part_number, part_reason, part_start, part_length}
 use Rattle.tables.specs.Extents.{Walked}
 use Rattle.record.specs.Allowance.{Charged}
 use Rattle.c_replies.specs.declared.DnReply.{DnReply}

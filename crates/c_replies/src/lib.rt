@@ -10,13 +10,13 @@ ghost use Rattle.tables.specs.Extents.{walk_says};
 ghost use Rattle.c_replies.specs.Told.{the_version, told, no_part, told_part, told_extent};
 
 use buffers::{Reason, Refusal, Reply};
-use heaps::Part;
+use heaps::{Part, Span};
 use steps::Charged;
 use tables::Extents;
 
 // The number asked for, which for a name is its length; or why there is none.
 #[repr(C)]
-#[derive(Drop)]
+#[derive(Clone, Copy)]
 pub struct DnReply {
     pub value: usize,
     pub refusal: usize,
@@ -25,7 +25,7 @@ pub struct DnReply {
 
 // Where in its heap the bytes of a lookup are, or why there are none.
 #[repr(C)]
-#[derive(Drop)]
+#[derive(Clone, Copy)]
 pub struct DnPart {
     pub start: usize,
     pub len: usize,
@@ -35,7 +35,7 @@ pub struct DnPart {
 
 // Where a table begins in the stream, its row size and its whole rows.
 #[repr(C)]
-#[derive(Drop)]
+#[derive(Clone, Copy)]
 pub struct DnExtent {
     pub start: usize,
     pub size: usize,
@@ -55,12 +55,12 @@ pub fn reply_of(reply: Reply) -> DnReply
     ensures { result ≡ told (reply_says reply) }
 {
     match reply {
-        Reply::Is(value) => DnReply {
+        Ok(value) => DnReply {
             value,
             refusal: 0,
             reason: 0,
         },
-        Reply::No(why) => DnReply {
+        Err(why) => DnReply {
             value: 0,
             refusal: buffers::refusal_number(why) as usize,
             reason: buffers::reason_number(why) as usize,
@@ -73,16 +73,14 @@ pub fn reply_charged(asked: Charged, steps: &mut u64) -> DnReply
     ensures { (result ≡ told (reply_says asked.reply)) × (steps.new ≡ asked.left) }
 {
     *steps = asked.left;
-    let reply = asked.reply;
-    reply_of(reply)
+    reply_of(asked.reply)
 }
 
 // The kind at which a walk was left.
 pub fn stop_of(walk: Extents) -> DnReply
     ensures { result ≡ told (walk_says walk).stop }
 {
-    let answer = walk.answer;
-    reply_of(answer)
+    reply_of(walk.answer)
 }
 
 // A lookup that finds nothing, and why.
@@ -102,17 +100,18 @@ pub fn part_of(part: Part) -> DnPart
     ensures { result ≡ told_part part }
 {
     match part {
-        Part::Found { start, len } => DnPart {
+        Ok(Span { start, len }) => DnPart {
             start,
             len,
             refusal: 0,
             reason: 0,
         },
-        Part::Absent(why) => no_part(why),
+        Err(why) => no_part(why),
     }
 }
 
 // What a walk says of a kind.
+#[tactic(auto, unfolding(crate::specs::Told::told_extent))]
 pub fn extent_of(walk: Extents, kind: u32) -> DnExtent
     ensures { result ≡ told_extent (walk_says walk) kind }
 {

@@ -8,27 +8,28 @@ ghost use Rattle.name_section.specs.Section.{names, section_says};
 ghost use Rattle.c_questions.specs.Asked.{options_of};
 ghost use Rattle.c_section.specs.Told.{told_used, ToldSection};
 
+use buffers::Refusal;
 use name_section::Section;
 
 // The bytes of a section and the number of classes; or why there is none.
 #[repr(C)]
-#[derive(Drop)]
+#[derive(Clone, Copy)]
 pub struct DnSection {
     pub bytes: usize,
     pub classes: usize,
     pub refusal: usize,
 }
 
-fn told_section(reply: Section) -> DnSection
+fn told_section(reply: Result<Section, Refusal>) -> DnSection
     ensures { result ≡ told_used (section_says reply) }
 {
     match reply {
-        Section::Written { bytes, classes } => DnSection {
+        Ok(Section { bytes, classes }) => DnSection {
             bytes,
             classes,
             refusal: 0,
         },
-        Section::No(why) => DnSection {
+        Err(why) => DnSection {
             bytes: 0,
             classes: 0,
             refusal: buffers::refusal_number(why) as usize,

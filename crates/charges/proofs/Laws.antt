@@ -1,6 +1,7 @@
 -- An answer within an allowance, by what was counted and what it came to. Assumes nothing.
 use mathlib.Core.Path.{◌≡◌, refl, sym, ap, ◌∙◌}
-use mathlib.Core.Bool.{Bool, true, false, ◌||◌}
+use mathlib.Core.Logic.{◌⊎◌, inl, inr}
+use mathlib.Core.Bool.{Bool, true, false, not, ◌||◌}
 use mathlib.Core.List.{List, []}
 use Prim.Native.Nat.{ℕ, ◌+◌, ◌-◌, ◌*◌, ◌/◌, ◌≤◌, ◌<◌}
 use native.Mathlib.Nat.{le_trans, mul-le-mul_left, mul-le-mul_right, div-mul-le_self, le-div_iff_mul-le}
@@ -8,10 +9,8 @@ use native.Mathlib.Omega.{arith}
 use borrow.Author.Tests.{lt-ltb, le-ltb}
 use lib.ListN.{length}
 use Rattle.buffers.specs.Texts.{Text}
-use Rattle.buffers.specs.Replies.{Answer, refused, value, refused_by, reply_says, Named}
+use Rattle.buffers.specs.Replies.{Reply, Answer, refused, value, refused_by, reply_says, Named}
 use Rattle.buffers.specs.declared.Refusal.TheVariants.{TooManySteps}
-use Rattle.buffers.specs.declared.Reply.{Reply}
-use Rattle.buffers.specs.declared.Reply.TheVariants.{No}
 use Rattle.heaps.specs.Lookups.{Name}
 use Rattle.record.specs.View.{View}
 use Rattle.record.specs.Names.{env, class_generics, base_steps}
@@ -24,19 +23,60 @@ use Rattle.passing.specs.Passing.{SpecsWithin}
 use Rattle.bases.proofs.Within.{bases-within}
 use Rattle.method_signatures.proofs.Within.{steps-within}
 use Rattle.charges.specs.Within.{AllFit}
-use Rattle.record.specs.Allowance.{base_work, method_work, count_of, cost, charge, NumberedCharged, NamedCharged, ceiling, is_over}
+use Rattle.classes.specs.declared.ClassNumber.{ClassNumber}
+use Rattle.questions.specs.declared.NumberQuestion.{NumberQuestion}
+use Rattle.questions.specs.declared.NumberQuestion.TheVariants as number
+use Rattle.questions.specs.declared.NameQuestion.{NameQuestion}
+use Rattle.questions.specs.declared.NameQuestion.TheVariants as name
+use Rattle.questions.specs.Questions.{number_call, name_call}
+use Rattle.record.specs.Allowance.{base_work, method_work, number_work, name_work, count_of, cost, charge, NumberedCharged, NamedCharged, ceiling, is_over}
 use Rattle.record.proofs.Allowance.{cost-replied, charge-spent, charge-fits}
-use Rattle.steps.specs.Counting.{Takes, left}
-use Rattle.steps.specs.declared.Steps.{Steps}
-use Rattle.steps.specs.declared.Steps.TheVariants.{Left, Spent}
+use Rattle.steps.specs.Counting.{Steps, Takes, left}
 use Rattle.steps.proofs.Laws.{takes-left, takes-spent}
+use Rattle.std.specs.Option.{is_some}
+use Rattle.std.specs.Prelude.{Some, None, Err}
 
 -- A call that counts nothing.
-pub takes-nothing : (steps : ℕ) → Takes 0 steps (Left steps)
+pub takes-nothing : (steps : ℕ) → Takes 0 steps (Some steps)
 takes-nothing steps = left {rest = steps} (omega arith)
 
+module _ (v : View) where
+  -- A name of a method's signature counts what the method does.
+  pub name-method : (q : NameQuestion) {c : ClassNumber} {m : ℕ}
+      → (q ≡ name.ReturnType c m) ⊎ (((p : ℕ) × (q ≡ name.ParamType c m p)) ⊎ ((p : ℕ) × (q ≡ name.ParamName c m p)))
+      → name_work (name_call q) v ≡ method_work v c.0 m
+  name-method q (inl e) = ap (λ (x : NameQuestion). name_work (name_call x) v) e
+  name-method q (inr (inl e)) = ap (λ (x : NameQuestion). name_work (name_call x) v) e.1
+  name-method q (inr (inr e)) = ap (λ (x : NameQuestion). name_work (name_call x) v) e.1
+
+module _ (v : View) (steps : ℕ) where
+  pub name-free : (q : NameQuestion) → ((c : ClassNumber) (b : ℕ) → q ≡ name.BaseName c b → ⊥) → ((c : ClassNumber) (m : ℕ) → q ≡ name.ReturnType c m → ⊥)
+      → ((c : ClassNumber) (m p : ℕ) → q ≡ name.ParamType c m p → ⊥) → ((c : ClassNumber) (m p : ℕ) → q ≡ name.ParamName c m p → ⊥)
+      → Takes (count_of (name_work (name_call q) v)) steps (Some steps)
+  name-free (name.ClassName c) base returns type param = takes-nothing steps
+  name-free (name.GenericName c g) base returns type param = takes-nothing steps
+  name-free (name.BaseName c b) base returns type param = absurd (base c b refl)
+  name-free (name.MethodName c m) base returns type param = takes-nothing steps
+  name-free (name.MethodGenericName c m g) base returns type param = takes-nothing steps
+  name-free (name.ReturnType c m) base returns type param = absurd (returns c m refl)
+  name-free (name.ParamType c m p) base returns type param = absurd (type c m p refl)
+  name-free (name.ParamName c m p) base returns type param = absurd (param c m p refl)
+
+  pub number-free : (q : NumberQuestion) → ((c : ClassNumber) → q ≡ number.BaseCount c → ⊥)
+      → ((c : ClassNumber) (m : ℕ) → q ≡ number.ParamCount c m → ⊥) → Takes (count_of (number_work (number_call q) v)) steps (Some steps)
+  number-free number.ClassCount base param = takes-nothing steps
+  number-free (number.ClassFlags c) base param = takes-nothing steps
+  number-free (number.GenericCount c) base param = takes-nothing steps
+  number-free (number.BaseCount c) base param = absurd (base c refl)
+  number-free (number.MethodCount c) base param = takes-nothing steps
+  number-free (number.MethodFlags c m) base param = takes-nothing steps
+  number-free (number.MethodGenericCount c m) base param = takes-nothing steps
+  number-free (number.ParamCount c m) base param = absurd (param c m refl)
+  number-free (number.ClassPacking c) base param = takes-nothing steps
+  number-free (number.ClassSize c) base param = takes-nothing steps
+
 module _ (steps : ℕ) (work : Answer ℕ) {r : Steps} (takes : Takes (count_of work) steps r) where
-  module _ {after x : ℕ} (e : r ≡ Left after) {reply : Reply} (rest : (n : ℕ) → n + after ≡ steps → x ≡ steps - cost n (reply_says reply)) where
+  module _ {after x : ℕ} (e : r ≡ Some after) {reply : Reply} (rest : (n : ℕ) → n + after ≡ steps → x ≡ steps - cost n (reply_says reply)) where
     pub number-left : (a : Answer ℕ) → Numbered a reply → NumberedCharged (charge steps work a) reply x
     number-left a says =
         let paid = takes-left takes e in
@@ -53,8 +93,8 @@ module _ (steps : ℕ) (work : Answer ℕ) {r : Steps} (takes : Takes (count_of 
               ∙ ap (λ (n : ℕ). steps - n) (cost-replied (count_of work) a (length b));
         })
 
-  module _ (e : r ≡ Spent) where
-    pub number-spent : (a : Answer ℕ) → NumberedCharged (charge steps work a) (No TooManySteps) 0
+  module _ (e : r ≡ None) where
+    pub number-spent : (a : Answer ℕ) → NumberedCharged (charge steps work a) (Err TooManySteps) 0
     number-spent a = rw (charge-spent steps work a (takes-spent takes e)) (record { says = refl; leaves = refl })
 
     pub name-spent : (a : Answer Text) {b b' : List ℕ} {reply : Reply} → Named (refused_by TooManySteps) b reply b'
@@ -68,14 +108,16 @@ pub few-fit : (work : Answer ℕ) → count_of work ≤ ceiling → is_over work
 unfolding is_over
 few-fit work few = le-ltb ceiling (count_of work) few
 
--- By what was counted of the ceiling.
-module _ (work : Answer ℕ) {r : Steps} (takes : Takes (count_of work) ceiling r) where
-  pub within-it : {rest : ℕ} → r ≡ Left rest → false ≡ is_over work
-  within-it e = let paid = takes-left takes e in sym (few-fit work (omega (arith, paid)))
+flipped : (b : Bool) {a : Bool} → a ≡ not b → b ≡ not a
+flipped true e = ap not (sym e)
+flipped false e = ap not (sym e)
 
-  pub beyond-it : r ≡ Spent → true ≡ is_over work
+-- By what was counted of the ceiling.
+module _ (work : Answer ℕ) where
+  pub over-it : {r : Steps} → Takes (count_of work) ceiling r → (over : Bool) → is_some r ≡ not over → over ≡ is_over work
   unfolding is_over
-  beyond-it e = sym (lt-ltb ceiling (count_of work) (takes-spent takes e))
+  over-it {r = Some rest} takes over e = let paid = takes-left takes refl in flipped over e ∙ sym (few-fit work (omega (arith, paid)))
+  over-it {r = None} takes over e = flipped over e ∙ sym (lt-ltb ceiling (count_of work) (takes-spent takes refl))
 
 -- ---- Where every name is within it
 

@@ -12,12 +12,12 @@ ghost use Rattle.questions.specs.Questions.{number_call, name_call};
 ghost use Rattle.charges.specs.Within.{AllFit};
 ghost use Rattle.steps.specs.Counting.{Takes};
 
-use buffers::{Refusal, Reply};
+use buffers::Refusal;
 use classes::ClassNumber;
 use places::Own;
 use questions::{NameQuestion, NumberQuestion};
 use rows::columns;
-use steps::{Charged, Steps};
+use steps::Charged;
 
 // What a listing allows for each name.
 const CEILING: u64 = 1_000_000;
@@ -34,15 +34,13 @@ fn tally_method(
     class: ClassNumber,
     m: u32,
     steps: u64,
-) -> Steps
+) -> Option<u64>
     requires { Laid tables.now layout.now }
     ensures { let v = view_in tables.now layout.now strings.now blob.now in
         Takes (count_of (method_work v class.0 m)) steps result }
 {
-    let own = places::no_own();
-    let placed = places::place_method(tables, layout, class, m, own);
-    let row = placed.row;
-    method_answers::pass_readings_of(tables, strings, blob, layout, class, row, steps)
+    let placed = places::place_method(tables, layout, class, m, places::no_own());
+    method_answers::pass_readings_of(tables, strings, blob, layout, class, placed.row, steps)
 }
 
 // What a question for a number takes.
@@ -53,7 +51,7 @@ fn tally_number(
     layout: &[u32],
     question: NumberQuestion,
     steps: u64,
-) -> Steps
+) -> Option<u64>
     requires { Laid tables.now layout.now }
     ensures { let v = view_in tables.now layout.now strings.now blob.now in
         Takes (count_of (number_work (number_call question) v)) steps result }
@@ -65,14 +63,7 @@ fn tally_number(
         NumberQuestion::ParamCount(c, m) => {
             tally_method(tables, strings, blob, layout, c, m, steps)
         }
-        NumberQuestion::ClassCount => Steps::Left(steps),
-        NumberQuestion::ClassFlags(_) => Steps::Left(steps),
-        NumberQuestion::GenericCount(_) => Steps::Left(steps),
-        NumberQuestion::MethodCount(_) => Steps::Left(steps),
-        NumberQuestion::MethodFlags(_, _) => Steps::Left(steps),
-        NumberQuestion::MethodGenericCount(_, _) => Steps::Left(steps),
-        NumberQuestion::ClassPacking(_) => Steps::Left(steps),
-        NumberQuestion::ClassSize(_) => Steps::Left(steps),
+        _ => Some(steps),
     }
 }
 
@@ -84,7 +75,7 @@ fn tally_name(
     layout: &[u32],
     question: NameQuestion,
     steps: u64,
-) -> Steps
+) -> Option<u64>
     requires { Laid tables.now layout.now }
     ensures { let v = view_in tables.now layout.now strings.now blob.now in
         Takes (count_of (name_work (name_call question) v)) steps result }
@@ -93,19 +84,12 @@ fn tally_name(
         NameQuestion::BaseName(c, _) => {
             class_answers::pass_bases_of(tables, strings, blob, layout, c, steps)
         }
-        NameQuestion::ReturnType(c, m) => {
+        NameQuestion::ReturnType(c, m)
+        | NameQuestion::ParamType(c, m, _)
+        | NameQuestion::ParamName(c, m, _) => {
             tally_method(tables, strings, blob, layout, c, m, steps)
         }
-        NameQuestion::ParamType(c, m, _) => {
-            tally_method(tables, strings, blob, layout, c, m, steps)
-        }
-        NameQuestion::ParamName(c, m, _) => {
-            tally_method(tables, strings, blob, layout, c, m, steps)
-        }
-        NameQuestion::ClassName(_) => Steps::Left(steps),
-        NameQuestion::GenericName(_, _) => Steps::Left(steps),
-        NameQuestion::MethodName(_, _) => Steps::Left(steps),
-        NameQuestion::MethodGenericName(_, _, _) => Steps::Left(steps),
+        _ => Some(steps),
     }
 }
 
@@ -122,22 +106,21 @@ pub fn charge_number(
     ensures { let v = view_in tables.now layout.now strings.now blob.now in
         NumberedCharged (number_charged (number_call question) v steps) result.reply result.left }
 {
-    match tally_number(tables, strings, blob, layout, question, steps) {
-        Steps::Left(after) => {
-            let reply = answers::answer_number(tables, strings, blob, layout, question);
-            Charged {
-                reply,
-                left: steps::left_after(reply, steps, after),
-            }
-        }
-        Steps::Spent => Charged {
-            reply: Reply::No(Refusal::TooManySteps),
+    let Some(after) = tally_number(tables, strings, blob, layout, question, steps) else {
+        return Charged {
+            reply: Err(Refusal::TooManySteps),
             left: NOTHING,
-        },
+        };
+    };
+    let reply = answers::answer_number(tables, strings, blob, layout, question);
+    Charged {
+        reply,
+        left: steps::left_after(reply, steps, after),
     }
 }
 
 // The answer to a question for a name.
+// One function for both would take two closures, for the answer and for the refusal, which cannot both lend the buffer.
 pub fn charge_name(
     buf: &mut [u8],
     tables: &[u8],
@@ -151,28 +134,17 @@ pub fn charge_name(
     ensures { let v = view_in tables.now layout.now strings.now blob.now in
         NamedCharged (name_charged (name_call question) v steps) buf.old result.reply buf.new result.left }
 {
-    match tally_name(tables, strings, blob, layout, question, steps) {
-        Steps::Left(after) => {
-            let reply = answers::answer_name(buf, tables, strings, blob, layout, question);
-            Charged {
-                reply,
-                left: steps::left_after(reply, steps, after),
-            }
-        }
-        Steps::Spent => Charged {
+    let Some(after) = tally_name(tables, strings, blob, layout, question, steps) else {
+        return Charged {
             reply: buffers::refuse(buf, Refusal::TooManySteps),
             left: NOTHING,
-        },
+        };
+    };
+    let reply = answers::answer_name(buf, tables, strings, blob, layout, question);
+    Charged {
+        reply,
+        left: steps::left_after(reply, steps, after),
     }
-}
-
-fn larger(a: usize, b: usize) -> u64
-    ensures { (a ≤ result) × (b ≤ result) }
-{
-    if a < b {
-        return b as u64;
-    }
-    a as u64
 }
 
 // Whether every name of a stream is surely within the ceiling. Where one class at most reads a method, its signature has no more types than
@@ -187,7 +159,7 @@ pub fn all_within(tables: &[u8], blob: &[u8], layout: &[u32]) -> bool
         return false;
     }
     let rows = rows::count_rows(layout, columns::IMPL_CLASS);
-    let types = larger(blob.len(), rows + 1);
+    let types = blob.len().max(rows + 1) as u64;
     if CEILING < types {
         return false;
     }
@@ -206,10 +178,7 @@ pub fn bases_over(
     ensures { let v = view_in tables.now layout.now strings.now blob.now in
         result ≡ is_over (base_work v class.0) }
 {
-    match class_answers::pass_bases_of(tables, strings, blob, layout, class, CEILING) {
-        Steps::Left(_) => false,
-        Steps::Spent => true,
-    }
+    class_answers::pass_bases_of(tables, strings, blob, layout, class, CEILING).is_none()
 }
 
 // The same of a method's signature, by what is known of its class's methods. Where its bytes show that it fits, its types are not passed
@@ -230,11 +199,8 @@ pub fn method_over(
 {
     let placed = places::place_method(tables, layout, class, m, own);
     let row = placed.row;
-    if method_answers::surely_fits_of(tables, blob, layout, row, CEILING) {
-        return false;
-    }
-    match method_answers::pass_readings_of(tables, strings, blob, layout, class, row, CEILING) {
-        Steps::Left(_) => false,
-        Steps::Spent => true,
-    }
+    !method_answers::surely_fits_of(tables, blob, layout, row, CEILING)
+        && method_answers::pass_readings_of(
+            tables, strings, blob, layout, class, row, CEILING,
+        ).is_none()
 }

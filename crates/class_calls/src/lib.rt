@@ -16,8 +16,7 @@ pub fn class_count(tables: &[u8], strings: &[u8], blob: &[u8], options: Options)
     ensures { Numbered (class_count (view options tables.now strings.now blob.now)) result }
 {
     let count = NumberQuestion::ClassCount;
-    let asked = asks::ask_number(tables, strings, blob, options, 0, count);
-    asked.reply
+    asks::ask_number(tables, strings, blob, options, 0, count).reply
 }
 
 // The flags of a class (II.23.1.15).
@@ -31,8 +30,7 @@ pub fn class_flags(
     ensures { Numbered (class_flags (view options tables.now strings.now blob.now) class.0) result }
 {
     let flags = NumberQuestion::ClassFlags(class);
-    let asked = asks::ask_number(tables, strings, blob, options, 0, flags);
-    asked.reply
+    asks::ask_number(tables, strings, blob, options, 0, flags).reply
 }
 
 // The packing of a class (II.22.8), as its first ClassLayout row has it.
@@ -46,8 +44,7 @@ pub fn class_packing(
     ensures { Numbered (class_packing (view options tables.now strings.now blob.now) class.0) result }
 {
     let packing = NumberQuestion::ClassPacking(class);
-    let asked = asks::ask_number(tables, strings, blob, options, 0, packing);
-    asked.reply
+    asks::ask_number(tables, strings, blob, options, 0, packing).reply
 }
 
 // Its size, in the same way.
@@ -61,8 +58,7 @@ pub fn class_size(
     ensures { Numbered (class_size (view options tables.now strings.now blob.now) class.0) result }
 {
     let size = NumberQuestion::ClassSize(class);
-    let asked = asks::ask_number(tables, strings, blob, options, 0, size);
-    asked.reply
+    asks::ask_number(tables, strings, blob, options, 0, size).reply
 }
 
 // The full name of a class.
@@ -78,6 +74,5 @@ pub fn class_name(
         Named (class_name v class.0) buf.old result buf.new }
 {
     let name = NameQuestion::ClassName(class);
-    let asked = asks::ask_name(tables, strings, blob, options, 0, name, buf);
-    asked.reply
+    asks::ask_name(tables, strings, blob, options, 0, name, buf).reply
 }

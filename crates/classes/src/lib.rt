@@ -7,21 +7,18 @@ ghost use Rattle.std.specs.Prelude.{◌≡◌, ◌<◌, ◌≤◌};
 ghost use Rattle.classes.specs.Numbering.{row_of, place_of, class_at, owner_of};
 
 // A row of TypeDef, counted from 1; 0 is no row.
-#[derive(Clone, Copy)]
+#[derive(Clone, Copy, Debug, PartialEq, Eq)]
 pub struct TypeDefRow(pub u32);
 
 // A class of the record, counted from 0.
-#[derive(Clone, Copy)]
+#[derive(Clone, Copy, Debug, PartialEq, Eq)]
 pub struct ClassNumber(pub u32);
 
 // The row of a class; of a number too large for a row, no row.
 pub fn row_of(class: ClassNumber) -> TypeDefRow
     ensures { result ≡ row_of class }
 {
-    if 0xFFFF_FFFD < class.0 {
-        return TypeDefRow(0);
-    }
-    TypeDefRow(class.0 + 2)
+    TypeDefRow(class.0.checked_add(2).unwrap_or(0))
 }
 
 // Where the row of a class stands in TypeDef, from 0.

@@ -65,17 +65,16 @@ pub extern "C" fn dn_walk_extent_by_table(tables: &[u8], options: u32, kind: u32
 }
 
 // The raw lookup, in the strings heap for 0 and the blob heap for 1: the place of the part that `dotnet::lookup` hands back.
+#[tactic(auto, unfolding(c_replies::specs::Told::told_lookup))]
 #[unsafe(no_mangle)]
 pub extern "C" fn dn_lookup(strings: &[u8], blobs: &[u8], which: u32, index: u32) -> DnPart
     ensures { result ≡ told_lookup strings.now blobs.now which index }
 {
-    if which == 0 {
-        return c_replies::part_of(heaps::get_string(strings, index as usize));
+    match which {
+        0 => c_replies::part_of(heaps::get_string(strings, index as usize)),
+        1 => c_replies::part_of(heaps::get_blob(blobs, index as usize)),
+        _ => c_replies::no_part(Reason::Untold),
     }
-    if which == 1 {
-        return c_replies::part_of(heaps::get_blob(blobs, index as usize));
-    }
-    c_replies::no_part(Reason::Untold)
 }
 
 // How many classes there are.

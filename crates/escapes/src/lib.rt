@@ -13,14 +13,13 @@ ghost use Rattle.escapes.specs.Escapes.{special, hex_digit, escaped_byte, escape
 
 use buffers::push;
 
-// What stands before the two digits of a byte.
+// What stands before the two digits of a byte, and all digits.
 const PERCENT: u8 = b'%';
+
+const DIGITS: &[u8] = b"0123456789ABCDEF";
 
 // The highest byte that stands.
 const HIGHEST: u8 = 0x7E;
-
-// How far the letters of hex digits lie behind where they would follow 9.
-const LETTERS: u32 = 7;
 
 // Bytes that are looked at in one turn, and that are overwritten behind a text; what is written there; and the highest bit of each.
 const TURN: usize = 8;
@@ -33,16 +32,11 @@ const TOPS: u64 = 0x8080_8080_8080_8080;
 const SPACE: usize = 12_352;
 
 // Whether a byte is not written as it stands.
+#[tactic(auto, unfolding(crate::specs::Escapes::special))]
 fn is_special(b: u8) -> bool
     ensures { result ≡ special b }
 {
-    if b < 0x22 {
-        return true;
-    }
-    if HIGHEST < b {
-        return true;
-    }
-    b == PERCENT
+    b < 0x22 || HIGHEST < b || b == PERCENT
 }
 
 // Whether eight bytes are all from 0x26 to 0x7E, and so stand: as one number, 0x26 can be taken from each, and 0x27 be added then, and no
@@ -50,11 +44,8 @@ fn is_special(b: u8) -> bool
 fn stand_word(v: u64) -> bool
     ensures { (s : List ℕ) (at : ℕ) → ((i : ℕ) → slice_index s i < 256) → v ≡ le_at 8 s at → result ≡ true → Stands s at 8 }
 {
-    let x = std::num::wrapping_sub_u64(v, 0x2626_2626_2626_2626);
-    if x & TOPS != 0 {
-        return false;
-    }
-    std::num::wrapping_add_u64(x, 0x2727_2727_2727_2727) & TOPS == 0
+    let x = v.wrapping_sub(0x2626_2626_2626_2626);
+    x & TOPS == 0 && x.wrapping_add(0x2727_2727_2727_2727) & TOPS == 0
 }
 
 fn stand_eight(s: &[u8], at: usize) -> bool
@@ -69,11 +60,7 @@ fn pad(out: &mut [u8], end: usize)
     requires { end + 8 ≤ length out.old }
     ensures { Kept out.old end out.new }
 {
-    let mut i = 0;
-    while i < TURN {
-        out[end + i] = PLAIN;
-        i += 1;
-    }
+    out[end..end + TURN].fill(PLAIN);
 }
 
 // Write eight bytes that were read as one number.
@@ -82,73 +69,33 @@ fn write_eight(out: &mut [u8], to: usize, v: u64)
     ensures { (s : List ℕ) (at : ℕ) → ((i : ℕ) → slice_index s i < 256) → at + 8 ≤ length s → v ≡ le_at 8 s at → Behind out.old to
         (to + 8) (part s at 8) out.new to }
 {
-    out[to + 7] = (v / 0x100_0000_0000_0000) as u8;
-    out[to + 6] = (v / 0x1_0000_0000_0000 % 256) as u8;
-    out[to + 5] = (v / 0x100_0000_0000 % 256) as u8;
-    out[to + 4] = (v / 0x1_0000_0000 % 256) as u8;
-    out[to + 3] = (v / 0x100_0000 % 256) as u8;
-    out[to + 2] = (v / 0x1_0000 % 256) as u8;
-    out[to + 1] = (v / 256 % 256) as u8;
-    out[to] = (v % 256) as u8;
+    out[to..to + TURN].copy_from_slice(&v.to_le_bytes());
 }
 
-// Copy eight bytes to another place.
-fn copy_eight(out: &mut [u8], from: usize, to: usize)
-    requires { (from + 8 ≤ length out.old) × (to + 8 ≤ length out.old) }
-    ensures { Behind out.old to (to + 8) (part out.old from 8) out.new to }
-{
-    let v = numbers::read_eight(out, from);
-    write_eight(out, to, v);
-}
-
-// Copy a text to a place that lies behind it, sixteen bytes a turn.
+// Copy a text to a place that lies behind it.
 fn copy_away(out: &mut [u8], start: usize, end: usize, gap: usize)
-    requires { (start ≤ end) × (end - start + 15 ≤ gap) × (end + 15 + gap ≤ length out.old) }
+    requires { (start ≤ end) × (end - start ≤ gap) × (end + gap ≤ length out.old) }
     ensures { Kept out.old (start + gap) out.new × (part out.new (start + gap) (end - start) ≡ part
         out.old start (end - start)) }
 {
-    let mut i = start;
-    while i < end {
-        copy_eight(out, i, i + gap);
-        i += TURN;
-        copy_eight(out, i, i + gap);
-        i += TURN;
-    }
+    let (front, behind) = out.split_at_mut(start + gap);
+    behind[..end - start].copy_from_slice(&front[start..end]);
 }
 
-// Write one byte by a percent sign. Its digits are made as one number, the high one in the lower byte: where six more reach 16, a digit is
-// a letter.
+// A digit from 0 to 15.
+fn hex_digit(n: u8) -> u8
+    requires { n < 16 }
+    ensures { result ≡ hex_digit n }
+{
+    DIGITS[n as usize]
+}
+
+// Write one byte by a percent sign.
 fn put_percent(out: &mut [u8], to: usize, b: u8)
     requires { to + 3 ≤ length out.old }
     ensures { Behind out.old to (to + 3) (0x25 ∷ hex_digit (b / 16) ∷ hex_digit (b % 16) ∷ []) out.new to }
 {
-    let n = b as u32;
-    let halves = n * 0x1001 / 16 & 0x0F0F;
-    let letters = (halves + 0x0606) / 16 & 0x0101;
-    let digits = halves + 0x3030 + letters * LETTERS;
-    out[to + 2] = (digits / 256) as u8;
-    out[to + 1] = (digits % 256) as u8;
-    out[to] = PERCENT;
-}
-
-// The same of two bytes.
-fn put_two(out: &mut [u8], to: usize, b: u8, c: u8)
-    requires { to + 6 ≤ length out.old }
-    ensures { Behind out.old to (to + 6)
-        (0x25 ∷ hex_digit (b / 16) ∷ hex_digit (b % 16) ∷ 0x25 ∷ hex_digit (c / 16) ∷ hex_digit (c % 16) ∷ []) out.new to }
-{
-    let n = (c as u32) * 0x1_0000 + (b as u32);
-    let halves = (n & 0xF_000F) * 256 + (n / 16 & 0xF_000F);
-    let letters = (halves + 0x0606_0606) / 16 & 0x0101_0101;
-    let digits = halves + 0x3030_3030 + letters * LETTERS;
-    let first = digits % 0x1_0000;
-    let second = digits / 0x1_0000;
-    out[to + 5] = (second / 256) as u8;
-    out[to + 4] = (second % 256) as u8;
-    out[to + 3] = PERCENT;
-    out[to + 2] = (first / 256) as u8;
-    out[to + 1] = (first % 256) as u8;
-    out[to] = PERCENT;
+    out[to..to + 3].copy_from_slice(&[PERCENT, hex_digit(b / 16), hex_digit(b % 16)]);
 }
 
 // Write one byte that is not above 0x7E. The answer is the place behind it.
@@ -180,9 +127,11 @@ fn write_anew(out: &mut [u8], start: usize, end: usize, at: usize) -> usize
     while from < end {
         let b = out[from];
         if HIGHEST < b {
+            // A turn for each alone was tried, and takes a tenth more where names are not ASCII.
             let c = out[from + 1];
             if HIGHEST < c {
-                put_two(out, to, b, c);
+                put_percent(out, to, b);
+                put_percent(out, to + 3, c);
                 from += 2;
                 to += 6;
                 continue;
@@ -224,23 +173,17 @@ fn escape_part(out: &mut [u8], start: usize, end: usize) -> usize
     write_anew(out, start + gap, end + gap, start)
 }
 
-// Write a text anew that stands from one place to another. Behind it there are eight bytes more. Most texts have no more than eight, and
-// most stand.
+// Write a text anew that stands from one place to another. Behind it there are eight bytes more. Most texts stand.
 pub fn escape(out: &mut [u8], start: usize, end: usize) -> usize
     requires { (start ≤ end) × (end + 8 ≤ length out.old) × (end ≤ start + longest) }
     ensures { let t = part out.old start (end - start) in
         Wrote out.old start (escaped t) out.new result }
 {
     pad(out, end);
-    if !stand_eight(out, start) {
-        return escape_part(out, start, end);
-    }
-    let mut i = start + TURN;
-    while i < end {
+    for i in (start..end).step_by(TURN) {
         if !stand_eight(out, i) {
             return escape_part(out, i, end);
         }
-        i += TURN;
     }
     end
 }

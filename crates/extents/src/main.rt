@@ -7,10 +7,15 @@ use extents_text::Sizes;
 use std::io;
 use std::process::ExitCode;
 
+// Bytes for an input, one more than the program takes, and for the text.
+const INPUT: usize = 65_537;
+
+const TEXT: usize = 8192;
+
 fn main(rt: HostRuntime) -> io::Result<ExitCode> {
-    let mut space = [0u8; 65537];
+    let mut space = [0u8; INPUT];
     let n = intake::read_full(&mut rt.reader(), &mut space);
-    let mut text = [0u8; 8192];
+    let mut text = [0u8; TEXT];
     let end = extents_text::write_extents(numbers::cut(&space, 0, n), Sizes::Summed, &mut text);
     if rt.write_all(numbers::cut(&text, 0, end)).is_ok() {
         return Ok(ExitCode::SUCCESS);

@@ -1,7 +1,7 @@
 -- Laws of the extents as text. Assumes nothing.
-use mathlib.Core.Path.{◌≡◌, subst}
+use mathlib.Core.Path.{◌≡◌}
 use mathlib.Core.List.{List}
-use Prim.Native.Nat.{ℕ, ◌+◌, ◌≤◌}
+use Prim.Native.Nat.{ℕ, ◌+◌}
 use native.Mathlib.Numerals.{add-one}
 use native.Mathlib.Omega.{arith}
 use lib.ListN.{get_or}
@@ -11,9 +11,9 @@ use Rattle.buffers.specs.Writes.{Wrote}
 use Rattle.buffers.proofs.Writing.{wrote_none, wrote_then}
 use Rattle.buffers.specs.Replies.{number, Refused, Answer, refused, value}
 use Rattle.buffers.specs.declared.Refusal.TheVariants.{BadInput}
+use Rattle.std.specs.Prelude.{Some, None}
 use Rattle.bundle.specs.Input.{bundle_of}
-use Rattle.bundle.specs.declared.Part.{Part}
-use Rattle.bundle.specs.declared.Bundle.TheVariants.{Streams, Malformed}
+use Rattle.bundle.specs.declared.Bundle.{Bundle}
 use Rattle.header.specs.Stream.{base}
 use Rattle.tables.specs.Extents.{Walked, walk_of}
 use Rattle.extents_text.specs.Lines.{kind_line, kind_lines, key_line, walk_text, input_text, extents_text}
@@ -29,9 +29,6 @@ pub kinds-more : {b b₁ b₂ : List ℕ} {at at' : ℕ} (w : Walked) (n : ℕ) 
 unfolding kind_lines
 kinds-more w n p r = rw (add-one n) (wrote_then p r)
 
-pub kinds-all : {b b' : List ℕ} {at : ℕ} (w : Walked) (n : ℕ) → n ≤ 64 → 64 ≤ n → Wrote b 0 (kind_lines w n) b' at → Wrote b 0 (kind_lines w 64) b' at
-kinds-all {b} {b'} {at} w n h l p = let e : n ≡ 64 = omega arith in subst (λ (k : ℕ). Wrote b 0 (kind_lines w k) b' at) e p
-
 -- The whole text, by the walk's answer and by the input's.
 module _ (w : Walked) {b b₂ : List ℕ} {at' : ℕ} {a : Answer ℕ} where
   pub text-stop : {b₁ : List ℕ} {at n : ℕ} → a ≡ value n → Wrote b 0 (kind_lines w 64) b₁ at → Wrote b₁ at (key_line (q "stop=") n) b₂ at' → Wrote b 0 (walk_text w a) b₂ at'
@@ -43,11 +40,11 @@ module _ (w : Walked) {b b₂ : List ℕ} {at' : ℕ} {a : Answer ℕ} where
   text-refused e p = rw e p
 
 module _ (s : List ℕ) {b b' : List ℕ} {at : ℕ} where
-  pub text-malformed : Malformed ≡ bundle_of s → Wrote b 0 (key_line (q "refused=") (number BadInput)) b' at → Wrote b 0 (extents_text s) b' at
+  pub text-malformed : None ≡ bundle_of s → Wrote b 0 (key_line (q "refused=") (number BadInput)) b' at → Wrote b 0 (extents_text s) b' at
   unfolding input_text
   text-malformed e p = rw (← e) p
 
-  pub text-streams : {t n h : Part} {bytes : List ℕ} {w : Walked} → Streams t n h ≡ bundle_of s → bytes ≡ part s t.at t.len → w ≡ walk_of base bytes
+  pub text-streams : {i : Bundle} {bytes : List ℕ} {w : Walked} → Some i ≡ bundle_of s → bytes ≡ part s i.tables.at i.tables.len → w ≡ walk_of base bytes
       → Wrote b 0 (walk_text w w.stop) b' at → Wrote b 0 (extents_text s) b' at
   unfolding input_text
   text-streams e c k p = rw (← e, ← c, ← k) p

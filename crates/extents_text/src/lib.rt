@@ -10,11 +10,10 @@ ghost use Rattle.header.specs.Stream.{base};
 ghost use Rattle.tables.specs.Extents.{walk_says, walk_of};
 ghost use Rattle.extents_text.specs.Lines.{field, kind_line, kind_lines, key_line, walk_text, extents_text};
 
-use buffers::{Refusal, Reply, push, push_decimal, put, refusal_number};
-use bundle::Bundle;
+use buffers::{Refusal, push, push_decimal, put, refusal_number};
 use tables::Extents;
 
-// Where a walk has the row sizes from: sums of columns, or the table of row sizes.
+// Where a walk has the row sizes from: sums of columns, or the table of row sizes. No closure, whose clause would ask more of callers.
 #[derive(Clone, Copy)]
 pub enum Sizes {
     Summed,
@@ -22,6 +21,7 @@ pub enum Sizes {
 }
 
 // A key and a number.
+#[tactic(auto, unfolding(crate::specs::Lines::key_line))]
 fn push_line(out: &mut [u8], at: usize, key: &[u8], n: usize) -> usize
     ensures { Wrote out.old at (key_line key.now n) out.new result }
 {
@@ -50,14 +50,12 @@ fn push_kind(out: &mut [u8], at: usize, kind: usize, start: usize, size: u32, ro
 }
 
 // A line for each kind.
-fn push_kinds(out: &mut [u8], w: Extents) -> usize
-    ensures { Wrote out.old 0 (kind_lines (walk_says w) 64) out.new result }
+fn push_kinds(out: &mut [u8], w: &Extents) -> usize
+    ensures { Wrote out.old 0 (kind_lines (walk_says w.now) 64) out.new result }
 {
     let mut at = 0;
-    let mut kind = 0;
-    while kind < 64 {
+    for kind in 0..64 {
         at = push_kind(out, at, kind, w.starts[kind], w.sizes[kind], w.rows[kind]);
-        kind += 1;
     }
     at
 }
@@ -65,19 +63,18 @@ fn push_kinds(out: &mut [u8], w: Extents) -> usize
 fn push_refused(out: &mut [u8], why: Refusal) -> usize
     ensures { Wrote out.old 0 (key_line (q "refused=") (number why)) out.new result }
 {
-    push_line(out, 0, b"refused=", refusal_number(why) as usize)
+    push_line(out, 0, b"refused=", usize::from(refusal_number(why)))
 }
 
-fn push_walk(out: &mut [u8], w: Extents) -> usize
-    ensures { Wrote out.old 0 (walk_text (walk_says w) (reply_says w.answer)) out.new result }
+fn push_walk(out: &mut [u8], w: &Extents) -> usize
+    ensures { Wrote out.old 0 (walk_text (walk_says w.now) (reply_says w.now.answer)) out.new result }
 {
-    let answer = w.answer;
-    match answer {
-        Reply::Is(stop) => {
+    match w.answer {
+        Ok(stop) => {
             let at = push_kinds(out, w);
             push_line(out, at, b"stop=", stop)
         }
-        Reply::No(why) => push_refused(out, why),
+        Err(why) => push_refused(out, why),
     }
 }
 
@@ -96,11 +93,11 @@ fn push_extents(input: &[u8], sizes: Sizes, out: &mut [u8]) -> usize
     ensures { Wrote out.old 0 (extents_text input.now) out.new result }
 {
     match bundle::open_bundle(input) {
-        Bundle::Streams(p, _, _) => push_walk(
-            out,
-            walk_by(numbers::cut(input, p.at, p.len), sizes),
-        ),
-        Bundle::Malformed => push_refused(out, Refusal::BadInput),
+        Some(b) => {
+            let tables = numbers::cut(input, b.tables.at, b.tables.len);
+            push_walk(out, &walk_by(tables, sizes))
+        }
+        None => push_refused(out, Refusal::BadInput),
     }
 }
 
@@ -112,6 +109,6 @@ pub fn write_extents(input: &[u8], sizes: Sizes, out: &mut [u8]) -> usize
         (result ≡ min (length text) (room + 1)) × (out.new ≡ name_buffer (value text) room) }
 {
     let end = push_extents(input, sizes, out);
-    buffers::finish(out, end);
+    let _ = buffers::finish(out, end);
     end
 }

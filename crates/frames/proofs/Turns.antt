@@ -24,10 +24,9 @@ use Rattle.shapes.specs.Runs.{brackets}
 use Rattle.sig_leaves.specs.Leaves.{up_to, argument_count}
 use Rattle.frames.specs.Stack.{joined, before, first_type, most_arguments, pairs, ends, rest, whole, stack, Modifier, Level, Moves, Other, Halts, Ends, Ascends, Descends, Paired}
 use Rattle.frames.specs.Stack as spec
-use Rattle.frames.specs.declared.Ended.{Ended}
 use Rattle.frames.specs.declared.Ended.TheVariants as ended
 use Rattle.frames.specs.declared.Descent.{Descent}
-use Rattle.frames.specs.declared.Descent.TheVariants as descent
+use Rattle.std.specs.Prelude.{Result, Ok, Err}
 use Rattle.frames.specs.declared.Ascent.{Ascent}
 use Rattle.frames.specs.declared.Ascent.TheVariants as ascent
 use Rattle.frames.proofs.Laws.{before-both, joined-some, joined-none, joined-before, joined-assoc, joined-alike, finishes, begins}
@@ -59,26 +58,26 @@ module _ (s : List ℕ) (pos : ℕ) {k p : ℕ} (e : some_at k p ≡ argument_co
 
 -- ---- A frame at the end of a type
 
-pub end-uncounted : (s : List ℕ) (pos : ℕ) {v : ℕ} {b : List ℕ} {at p : ℕ} → v ≡ 0 → none_at p ≡ argument_count s pos → Ends s pos v b at b (ended.Broken p)
+pub end-uncounted : (s : List ℕ) (pos : ℕ) {v : ℕ} {b : List ℕ} {at p : ℕ} → v ≡ 0 → none_at p ≡ argument_count s pos → Ends s pos v b at b (Err p)
 end-uncounted s pos {b = b} {at = at} {p = p} z e = spec.broken {p = p} (kept_same b at) (λ T. rw z ((finishes T).uncounted s pos e))
 
 module _ (s : List ℕ) (pos : ℕ) {v : ℕ} {b b' : List ℕ} {at k : ℕ} where
-  pub end_empty : {c p : ℕ} → v ≡ 0 → some_at c p ≡ argument_count s pos → c ≡ 0 → Wrote b at (q "<>") b' k → Ends s pos v b at b' (ended.Closed k p)
+  pub end_empty : {c p : ℕ} → v ≡ 0 → some_at c p ≡ argument_count s pos → c ≡ 0 → Wrote b at (q "<>") b' k → Ends s pos v b at b' (Ok (ended.Closed k p))
   end_empty z e n w = spec.closed (q "<>") w (count-ahead s pos e) (λ T. rw z ((finishes T).empty s pos (rw n at e)))
 
   pub end-counted : {c p x : ℕ} → v ≡ 0 → some_at c p ≡ argument_count s pos → (c ≡ 0 → ⊥) → x ≡ c → Wrote b at (q "<") b' k
-      → Ends s pos v b at b' (ended.Next k p x)
+      → Ends s pos v b at b' (Ok (ended.Next k p x))
   end-counted {c} {p} {x} z e n y w =
       let positive : 0 < c = omega (arith, n) in
       spec.next {w = x} (q "<") w (count-ahead s pos e) (λ T. rw (z, y) ((finishes T).counted s pos positive (count_small s pos e) e))
 
-  pub end-last : v ≡ 1 → Wrote b at (q ">") b' k → Ends s pos v b at b' (ended.Closed k pos)
+  pub end-last : v ≡ 1 → Wrote b at (q ">") b' k → Ends s pos v b at b' (Ok (ended.Closed k pos))
   end-last z w = spec.closed (q ">") w (le_refl pos) (λ T. rw z ((finishes T).last s pos))
 
-  pub end-argument : (v ≡ 0 → ⊥) → (v ≡ 1 → ⊥) → v ≤ most_arguments → Wrote b at (q ",") b' k → Ends s pos v b at b' (ended.Next k pos (v - 1))
+  pub end-argument : (v ≡ 0 → ⊥) → (v ≡ 1 → ⊥) → v ≤ most_arguments → Wrote b at (q ",") b' k → Ends s pos v b at b' (Ok (ended.Next k pos (v - 1)))
   end-argument n o l w = spec.next (q ",") w (le_refl pos) (λ T. (finishes T).argument s pos v (omega (arith, n, o)) l)
 
-  pub end-brackets : {n : ℕ} → most_arguments < v → n ≡ v - most_arguments → Wrote b at (brackets n) b' k → Ends s pos v b at b' (ended.Closed k pos)
+  pub end-brackets : {n : ℕ} → most_arguments < v → n ≡ v - most_arguments → Wrote b at (brackets n) b' k → Ends s pos v b at b' (Ok (ended.Closed k pos))
   end-brackets l e w = spec.closed (brackets (v - most_arguments)) (rw e at w) (le_refl pos) (λ T. (finishes T).bracketed s pos v l)
 
 -- ---- The frames in use
@@ -103,7 +102,7 @@ module _ (a : List ℕ) {n : ℕ} (z : 0 < n) where
 -- ---- All frames at the end of a type
 
 module _ {s : List ℕ} {pos v : ℕ} {b b₁ : List ℕ} {at : ℕ} where
-  closed_in : {k p : ℕ} → Ends s pos v b at b₁ (ended.Closed k p) → {vs : List ℕ} {used : ℕ} {b' a' : List ℕ} {r : Ascent} → Ascends s p vs used b₁ k b' a' r → {more : ℕ} → used ≤ more
+  closed_in : {k p : ℕ} → Ends s pos v b at b₁ (Ok (ended.Closed k p)) → {vs : List ℕ} {used : ℕ} {b' a' : List ℕ} {r : Result Ascent ℕ} → Ascends s p vs used b₁ k b' a' r → {more : ℕ} → used ≤ more
       → Ascends s pos (v ∷ vs) more b at b' a' r
   unfolding rest
   closed_in (spec.closed {k} {p} u w le e) {vs = vs} (spec.more {n = n} t x ahead less is) h =
@@ -115,38 +114,37 @@ module _ {s : List ℕ} {pos v : ℕ} {b b₁ : List ℕ} {at : ℕ} where
   closed_in (spec.closed {k} {p} u w le e) {vs = vs} (spec.broken x is) h =
       spec.broken (wrote_kept w x) (λ T. joined-some (ends T v) (rest T vs) s pos p u (e T) ∙ ap (before u) (is T))
 
-  next-in : {k p x : ℕ} → Ends s pos v b at b₁ (ended.Next k p x) → {vs a' : List ℕ} {n used : ℕ} → stack a' n ≡ x ∷ vs → n ≤ used
-      → Ascends s pos (v ∷ vs) used b at b₁ a' (ascent.More k p n)
+  next-in : {k p x : ℕ} → Ends s pos v b at b₁ (Ok (ended.Next k p x)) → {vs a' : List ℕ} {n used : ℕ} → stack a' n ≡ x ∷ vs → n ≤ used
+      → Ascends s pos (v ∷ vs) used b at b₁ a' (Ok (ascent.More k p n))
   unfolding rest
   next-in (spec.next {k} {p} {w} u o le e) {vs = vs} i h =
       spec.more u o le h
       (λ T. rw i (joined-before (ends T v) (joined T (ends T w)) (rest T vs) s pos p u (e T) ∙ ap (before u) (joined-assoc T (ends T w) (rest T vs) s p)))
 
-  broken-in : {p : ℕ} → Ends s pos v b at b₁ (ended.Broken p) → {vs a' : List ℕ} {used : ℕ} → Ascends s pos (v ∷ vs) used b at b₁ a' (ascent.Broken p)
+  broken-in : {p : ℕ} → Ends s pos v b at b₁ (Err p) → {vs a' : List ℕ} {used : ℕ} → Ascends s pos (v ∷ vs) used b at b₁ a' (Err p)
   unfolding rest
   broken-in (spec.broken {p} k e) {vs = vs} = spec.broken k (λ T. joined-none (ends T v) (rest T vs) s pos p 0 (e T))
 
-  closed-place : {k p : ℕ} → Ends s pos v b at b₁ (ended.Closed k p) → k ≤ length b₁ + 1
-  closed-place (spec.closed u w le e) = omega (arith, w.place, w.keeps.long)
-
   -- A frame that has ended leaves a place in the buffer, or one past its end.
-  pub ended-place : {x : Ended} → Ends s pos v b at b₁ x → {k p : ℕ} → x ≡ ended.Closed k p → k ≤ length b₁ + 1
-  ended-place h e = closed-place (subst (Ends s pos v b at b₁) e h)
+  pub ended-place : {k p : ℕ} → Ends s pos v b at b₁ (Ok (ended.Closed k p)) → k ≤ length b₁ + 1
+  ended-place (spec.closed u w le e) = omega (arith, w.place, w.keeps.long)
+  -- A frame that has ended leaves a place in the buffer, or one past its end.
 
 -- The loop of `ascend`: what completes the frames that are left completes all.
-module _ {s : List ℕ} {pos : ℕ} (a : List ℕ) {n : ℕ} (z : 0 < n) {b b₁ : List ℕ} {at : ℕ} {x : Ended} (h : Ends s pos (get_or a (n - 1) 0) b at b₁ x) where
-  pub ascend-closed : {k p : ℕ} → x ≡ ended.Closed k p → {b' a' : List ℕ} {r : Ascent} → Ascends s p (stack a (n - 1)) (n - 1) b₁ k b' a' r
-      → Ascends s pos (stack a n) n b at b' a' r
-  ascend-closed e y = rw (stack_top a z) (closed_in (subst (Ends s pos (get_or a (n - 1) 0) b at b₁) e h) y (omega arith))
+module _ {s : List ℕ} {pos : ℕ} (a : List ℕ) {n : ℕ} (z : 0 < n) {b b₁ : List ℕ} {at : ℕ} where
+  pub ascend-closed : {k p : ℕ} → Ends s pos (get_or a (n - 1) 0) b at b₁ (Ok (ended.Closed k p)) → {b' a' : List ℕ} {r : Result Ascent ℕ}
+      → Ascends s p (stack a (n - 1)) (n - 1) b₁ k b' a' r → Ascends s pos (stack a n) n b at b' a' r
+  ascend-closed h y = rw (stack_top a z) (closed_in h y (omega arith))
 
-  pub ascend-next : {k p v : ℕ} → x ≡ ended.Next k p v → n ≤ length a → Ascends s pos (stack a n) n b at b₁ (set a (n - 1) v) (ascent.More k p n)
-  ascend-next {v = v} e l = rw (stack_top a z) (next-in (subst (Ends s pos (get_or a (n - 1) 0) b at b₁) e h) (stack-change a z v l) (le_refl n))
+  pub ascend-next : {k p v : ℕ} → Ends s pos (get_or a (n - 1) 0) b at b₁ (Ok (ended.Next k p v)) → n ≤ length a
+      → Ascends s pos (stack a n) n b at b₁ (set a (n - 1) v) (Ok (ascent.More k p n))
+  ascend-next {v = v} h l = rw (stack_top a z) (next-in h (stack-change a z v l) (le_refl n))
 
-  pub ascend-broken : {p : ℕ} {a' : List ℕ} → x ≡ ended.Broken p → Ascends s pos (stack a n) n b at b₁ a' (ascent.Broken p)
-  ascend-broken e = rw (stack_top a z) (broken-in (subst (Ends s pos (get_or a (n - 1) 0) b at b₁) e h))
+  pub ascend-broken : {p : ℕ} {a' : List ℕ} → Ends s pos (get_or a (n - 1) 0) b at b₁ (Err p) → Ascends s pos (stack a n) n b at b₁ a' (Err p)
+  ascend-broken h = rw (stack_top a z) (broken-in h)
 
 pub ascend-over : {s : List ℕ} {pos : ℕ} (a : List ℕ) {n : ℕ} → n ≤ 0 → {b a' : List ℕ} {at : ℕ} → at ≤ length b + 1
-    → Ascends s pos (stack a n) n b at b a' (ascent.Over at pos)
+    → Ascends s pos (stack a n) n b at b a' (Ok (ascent.Over at pos))
 unfolding stack rest
 ascend-over a {n} z {b} {a'} {at} h =
     let zero_is : n ≡ 0 = omega (arith, z) in rw zero_is (spec.over [] (wrote_none b at at (omega arith)) (λ T. refl))
@@ -178,7 +176,7 @@ module _ {s : List ℕ} {pos : ℕ} {vs : List ℕ} {k p : ℕ} {ws : List ℕ} 
         ∙ ap (λ (n : ℕ). record { got = r.got; next = r.next; steps = n }) (sym (add_assoc k m r.steps));
   }
 
-  moves-broken : {p' : ℕ} {a' : List ℕ} {used : ℕ} (m : ℕ) → ((T : Reader Text) → Level T → whole T ws s p ≡ after m (none_at p')) → Descends s pos vs used a' (descent.Broken p' (k + m))
+  moves-broken : {p' : ℕ} {a' : List ℕ} {used : ℕ} (m : ℕ) → ((T : Reader Text) → Level T → whole T ws s p ≡ after m (none_at p')) → Descends s pos vs used a' (Err (p', k + m))
   moves-broken {p'} m e =
       spec.broken {p = p'} {m = k + m} (λ T h. x.is T h ∙ ap (after k) (e T h) ∙ ap (λ (n : ℕ). record { got = none; next = p'; steps = n }) (sym (add_assoc k m 0)))
 
@@ -197,7 +195,7 @@ module _ {s : List ℕ} {pos : ℕ} {vs : List ℕ} {p : ℕ} (a : List ℕ) (n 
     pub descend-modifier : {v next : ℕ} → uint s (p + 1) ≡ some_at v next → Moves s pos vs (k + 1) next (stack a n)
     descend-modifier u = moves-then x 1 (λ T h. (begins T h).modifier (stack a n) s p m u)
 
-    pub descend-torn : {next : ℕ} {a' : List ℕ} {used : ℕ} → uint s (p + 1) ≡ none_at next → Descends s pos vs used a' (descent.Broken next (k + 1))
+    pub descend-torn : {next : ℕ} {a' : List ℕ} {used : ℕ} → uint s (p + 1) ≡ none_at next → Descends s pos vs used a' (Err (next, k + 1))
     descend-torn u = moves-broken x 1 (λ T h. (begins T h).torn (stack a n) s p m u)
 
 pub modifier : (s : List ℕ) {p : ℕ} → p < length s → 0x1F ≤ get_or s p 0 → get_or s p 0 < 0x21 → Modifier s p
@@ -227,32 +225,29 @@ other-end h = record {
   no-generic = λ l _. absurd (omega (arith, l, h));
 }
 
--- What is known of a descent that was matched.
-pub record Came (s : List ℕ) (pos : ℕ) (vs : List ℕ) (used : ℕ) (a' : List ℕ) (p n m : ℕ) (full : Bool) : Type 0 where
-  pub ahead : pos ≤ p
-  pub few : n + pos ≤ used + p
-  pub room : n ≤ length a'
-  pub moved : Moves s pos vs m p (stack a' n)
-  pub halts : Halts s p n (length a') full
+-- What is known of a descent.
+pub record Came (s : List ℕ) (pos : ℕ) (vs : List ℕ) (used : ℕ) (a' : List ℕ) (d : Descent) : Type 0 where
+  pub ahead : pos ≤ d.at
+  pub few : d.used + pos ≤ used + d.at
+  pub room : d.used ≤ length a'
+  pub moved : Moves s pos vs d.passed d.at (stack a' d.used)
+  pub halts : Halts s d.at d.used (length a') d.full
 
-module _ {s : List ℕ} {pos : ℕ} {vs : List ℕ} {used : ℕ} {a' : List ℕ} {x : Descent} (h : Descends s pos vs used a' x) {p n m : ℕ} {full : Bool} (e : x ≡ descent.At p n full m) where
-  pub came : Came s pos vs used a' p n m full
-  came = go (subst (Descends s pos vs used a') e h)
-    where
-      go : Descends s pos vs used a' (descent.At p n full m) → Came s pos vs used a' p n m full
-      go (spec.arrived ahead few room moved halts) = record { ahead = ahead; few = few; room = room; moved = moved; halts = halts }
+module _ {s : List ℕ} {pos : ℕ} {vs : List ℕ} {used : ℕ} {a' : List ℕ} {d : Descent} where
+  pub came : Descends s pos vs used a' (Ok d) → Came s pos vs used a' d
+  came (spec.arrived ahead few room moved halts) = record { ahead = ahead; few = few; room = room; moved = moved; halts = halts }
 
   -- All descents of a level together leave the place where the first began, at which a tag keeps the level.
-  pub came-on : {start : ℕ} → (Other s start → ⊥) → used + start ≤ pos → 0 < length a' → start < p
-  came-on {start} k le room = go came.halts (eq-or-lt_of_le at_least)
+  pub came-on : Came s pos vs used a' d → {start : ℕ} → (Other s start → ⊥) → used + start ≤ pos → 0 < length a' → start < d.at
+  came-on c {start} k le room = go c.halts (eq-or-lt_of_le at_least)
     where
-      at_least : start ≤ p
-      at_least = omega (arith, came.ahead, le)
+      at_least : start ≤ d.at
+      at_least = omega (arith, c.ahead, le)
 
-      go : {y : Bool} → Halts s p n (length a') y → (start ≡ p) ⊎ (start < p) → start < p
+      go : {y : Bool} → Halts s d.at d.used (length a') y → (start ≡ d.at) ⊎ (start < d.at) → start < d.at
       go x (inr l) = l
       go (spec.other o) (inl same) = absurd (k (subst (Other s) (sym same) o))
-      go (spec.full t f) (inl same) = omega (arith, came.ahead, came.few, le, room, f)
+      go (spec.full t f) (inl same) = omega (arith, c.ahead, c.few, le, room, f)
 
 -- Where no frame is free, a tag keeps the level.
 pub halts-full : {s : List ℕ} {p n room : ℕ} {full : Bool} → Halts s p n room full → full ≡ true → Other s p → ⊥

@@ -1,6 +1,6 @@
 -- Types inside of generic types at one level (II.23.2.12), by a stack of frames: what is still to be read and written behind a type that
 -- ends. `FramesRead` says that reading by frames is the recursion of the definition.
-use Rattle.std.specs.Prelude.{◌≡◌, List, [], ◌∷◌, ◌++◌, ◌⊎◌, Bool, true, false, cond, ℕ, zero, suc, ◌+◌, ◌-◌, ◌<◌, ◌≤◌, eqb, ltb, length, get_or}
+use Rattle.std.specs.Prelude.{◌≡◌, List, [], ◌∷◌, ◌++◌, ◌⊎◌, Bool, true, false, cond, ℕ, zero, suc, ◌+◌, ◌-◌, ◌<◌, ◌≤◌, eqb, ltb, length, get_or, Result, Ok, Err}
 use Rattle.std.proofs.Math.Option.{Option, none, some}
 use Rattle.numbers.specs.Reading.{Res, Reader, some_at, none_at, give, after, ◌>>=◌}
 use Rattle.numbers.specs.Compressed.{uint}
@@ -12,7 +12,6 @@ use Rattle.sig_leaves.specs.Leaves.{argument_count}
 use Rattle.frames.specs.declared.Ended.{Ended}
 use Rattle.frames.specs.declared.Ended.TheVariants as ended
 use Rattle.frames.specs.declared.Descent.{Descent}
-use Rattle.frames.specs.declared.Descent.TheVariants as descent
 use Rattle.frames.specs.declared.Ascent.{Ascent}
 use Rattle.frames.specs.declared.Ascent.TheVariants as ascent
 
@@ -114,20 +113,20 @@ FramesRead = (type : Reader Text) → Finishes type × (Level type → Begins ty
 
 -- A frame v at the end of a type: it has ended too, with u; or an argument follows behind u, and the frame is now another; or the
 -- reading fails.
-pub data Ends (s : List ℕ) (pos v : ℕ) (b : List ℕ) (at : ℕ) (b' : List ℕ) : Ended → Type 0 where
+pub data Ends (s : List ℕ) (pos v : ℕ) (b : List ℕ) (at : ℕ) (b' : List ℕ) : Result Ended ℕ → Type 0 where
   closed : {k p : ℕ} (u : Text) → Wrote b at u b' k → pos ≤ p → ((type : Reader Text) → ends type v s pos ≡ some_at u p)
-      → Ends s pos v b at b' (ended.Closed k p)
+      → Ends s pos v b at b' (Ok (ended.Closed k p))
   next : {k p w : ℕ} (u : Text) → Wrote b at u b' k → pos ≤ p → ((type : Reader Text) → ends type v s pos ≡ before u (joined type (ends type w) s p))
-      → Ends s pos v b at b' (ended.Next k p w)
-  broken : {p : ℕ} → Kept b at b' → ((type : Reader Text) → ends type v s pos ≡ none_at p) → Ends s pos v b at b' (ended.Broken p)
+      → Ends s pos v b at b' (Ok (ended.Next k p w))
+  broken : {p : ℕ} → Kept b at b' → ((type : Reader Text) → ends type v s pos ≡ none_at p) → Ends s pos v b at b' (Err p)
 
 -- All frames at the end of a type, and the array after it.
-pub data Ascends (s : List ℕ) (pos : ℕ) (vs : List ℕ) (used : ℕ) (b : List ℕ) (at : ℕ) (b' : List ℕ) (a' : List ℕ) : Ascent → Type 0 where
+pub data Ascends (s : List ℕ) (pos : ℕ) (vs : List ℕ) (used : ℕ) (b : List ℕ) (at : ℕ) (b' : List ℕ) (a' : List ℕ) : Result Ascent ℕ → Type 0 where
   more : {k p n : ℕ} (u : Text) → Wrote b at u b' k → pos ≤ p → n ≤ used
-      → ((type : Reader Text) → rest type vs s pos ≡ before u (whole type (stack a' n) s p)) → Ascends s pos vs used b at b' a' (ascent.More k p n)
+      → ((type : Reader Text) → rest type vs s pos ≡ before u (whole type (stack a' n) s p)) → Ascends s pos vs used b at b' a' (Ok (ascent.More k p n))
   over : {k p : ℕ} (u : Text) → Wrote b at u b' k → ((type : Reader Text) → rest type vs s pos ≡ some_at u p)
-      → Ascends s pos vs used b at b' a' (ascent.Over k p)
-  broken : {p : ℕ} → Kept b at b' → ((type : Reader Text) → rest type vs s pos ≡ none_at p) → Ascends s pos vs used b at b' a' (ascent.Broken p)
+      → Ascends s pos vs used b at b' a' (Ok (ascent.Over k p))
+  broken : {p : ℕ} → Kept b at b' → ((type : Reader Text) → rest type vs s pos ≡ none_at p) → Ascends s pos vs used b at b' a' (Err p)
 
 -- A type and what follows it is another type and what follows that, m type bytes later.
 pub record Moves (s : List ℕ) (pos : ℕ) (vs : List ℕ) (m p : ℕ) (ws : List ℕ) : Type 0 where
@@ -144,11 +143,11 @@ pub data Halts (s : List ℕ) (at n room : ℕ) : Bool → Type 0 where
   full : (Other s at → ⊥) → n ≡ room → Halts s at n room true
 
 -- The tags that keep the level before a type are passed, and the frames that they ask for are put on the stack.
-pub data Descends (s : List ℕ) (pos : ℕ) (vs : List ℕ) (used : ℕ) (a' : List ℕ) : Descent → Type 0 where
-  arrived : {p n m : ℕ} {full : Bool} → pos ≤ p → n + pos ≤ used + p → n ≤ length a' → Moves s pos vs m p (stack a' n)
-      → Halts s p n (length a') full → Descends s pos vs used a' (descent.At p n full m)
+pub data Descends (s : List ℕ) (pos : ℕ) (vs : List ℕ) (used : ℕ) (a' : List ℕ) : Result Descent (ℕ × ℕ) → Type 0 where
+  arrived : {d : Descent} → pos ≤ d.at → d.used + pos ≤ used + d.at → d.used ≤ length a' → Moves s pos vs d.passed d.at (stack a' d.used)
+      → Halts s d.at d.used (length a') d.full → Descends s pos vs used a' (Ok d)
   broken : {p m : ℕ} → ((type : Reader Text) → Level type → whole type vs s pos ≡ after m (none_at p))
-      → Descends s pos vs used a' (descent.Broken p m)
+      → Descends s pos vs used a' (Err (p, m))
 
 -- The frames in use ask for one pair of brackets and then for what others asked for.
 pub record Paired (vs : List ℕ) (used : ℕ) (a' : List ℕ) (n : ℕ) : Type 0 where

@@ -6,8 +6,6 @@
 ghost use Rattle.std.specs.Prelude.{◌≡◌, ◌+◌, ◌<◌, ◌≤◌, length};
 ghost use Rattle.frames.specs.Stack.{stack, Ends, Ascends, Descends, Paired};
 
-use numbers::Uint;
-
 // A frame of a generic type whose first type is being read. From 1 to MOST_ARGUMENTS a frame is of a generic type of which so many
 // arguments, the one that is being read included, have not ended. Above, it is of so many pairs of brackets as it is above.
 const FIRST_TYPE: u16 = 0;
@@ -19,74 +17,54 @@ const ONE_PAIR: u16 = 1001;
 const MOST_PAIRS: u16 = 65535;
 
 // What a frame comes to at the end of a type: it has ended too, with the next place and position; or the same with what the frame is
-// now, where an argument follows; or the position at which the reading fails.
-#[derive(Drop)]
+// now, where an argument follows.
+#[derive(Clone, Copy, Debug, PartialEq, Eq)]
 pub enum Ended {
     Closed(usize, usize),
     Next(usize, usize, u16),
-    Broken(usize),
 }
 
-// What all frames come to: an argument follows, with the place, the position and the frames in use; or all have ended; or the reading
-// fails.
-#[derive(Drop)]
+// What all frames come to: an argument follows, with the place, the position and the frames in use; or all have ended.
+#[derive(Clone, Copy, Debug, PartialEq, Eq)]
 pub enum Ascent {
     More(usize, usize, usize),
     Over(usize, usize),
-    Broken(usize),
 }
 
 // The position of a type, the frames in use, whether one of the four tags begins it, for which no frame is free, and the type bytes
-// passed. Or the position at which the reading fails, and the type bytes passed.
-#[derive(Drop)]
-pub enum Descent {
-    At(usize, usize, bool, usize),
-    Broken(usize, usize),
+// passed.
+#[derive(Clone, Copy, Debug, PartialEq, Eq)]
+pub struct Descent {
+    pub at: usize,
+    pub used: usize,
+    pub full: bool,
+    pub passed: usize,
 }
 
-fn narrow(x: u32) -> u16
-    requires { x < 1001 }
-    ensures { result ≡ x }
-{
-    x as u16
-}
-
-fn wide(x: u16) -> usize
-    ensures { result ≡ x }
-{
-    x as usize
-}
-
-// A frame at the end of a type.
-fn end_frame(buf: &mut [u8], at: usize, sig: &[u8], pos: usize, v: u16) -> Ended
+// A frame at the end of a type, or the position at which the reading fails.
+fn end_frame(buf: &mut [u8], at: usize, sig: &[u8], pos: usize, v: u16) -> Result<Ended, usize>
     ensures { Ends sig.now pos v buf.old at buf.new result }
 {
     if v == FIRST_TYPE {
-        match sig_leaves::read_argument_count(sig, pos) {
-            Uint::Number(count, first) => {
-                if count == 0 {
-                    return Ended::Closed(buffers::push(buf, at, b"<>"), first);
-                }
-                return Ended::Next(buffers::push(buf, at, b"<"), first, narrow(count));
-            }
-            Uint::NoNumber(next) => {
-                return Ended::Broken(next);
-            }
+        let (count, first) = sig_leaves::read_argument_count(sig, pos)?;
+        if count == 0 {
+            return Ok(Ended::Closed(buffers::push(buf, at, b"<>"), first));
         }
+        return Ok(Ended::Next(buffers::push(buf, at, b"<"), first, count as u16));
     }
     if v == 1 {
-        return Ended::Closed(buffers::push(buf, at, b">"), pos);
+        return Ok(Ended::Closed(buffers::push(buf, at, b">"), pos));
     }
     if v <= MOST_ARGUMENTS {
-        return Ended::Next(buffers::push(buf, at, b","), pos, v - 1);
+        return Ok(Ended::Next(buffers::push(buf, at, b","), pos, v - 1));
     }
-    Ended::Closed(
-        shapes::push_brackets(buf, at, wide(v - MOST_ARGUMENTS)),
+    Ok(Ended::Closed(
+        shapes::push_brackets(buf, at, usize::from(v - MOST_ARGUMENTS)),
         pos,
-    )
+    ))
 }
 
-// All frames at the end of a type.
+// All frames at the end of a type, or the position at which the reading fails.
 pub fn ascend(
     buf: &mut [u8],
     at: usize,
@@ -94,7 +72,7 @@ pub fn ascend(
     pos: usize,
     frames: &mut [u16],
     used: usize,
-) -> Ascent
+) -> Result<Ascent, usize>
     requires { (at ≤ length buf.old + 1) × (used ≤ length frames.old) }
     ensures { Ascends sig.now pos (stack frames.old used) used buf.old at buf.new
         frames.new result }
@@ -104,7 +82,7 @@ pub fn ascend(
     let mut n = used;
     while 0 < n {
         let top = n - 1;
-        match end_frame(buf, k, sig, p, frames[top]) {
+        match end_frame(buf, k, sig, p, frames[top])? {
             Ended::Closed(end, next) => {
                 k = end;
                 p = next;
@@ -112,14 +90,11 @@ pub fn ascend(
             }
             Ended::Next(end, next, v) => {
                 frames[top] = v;
-                return Ascent::More(end, next, n);
-            }
-            Ended::Broken(next) => {
-                return Ascent::Broken(next);
+                return Ok(Ascent::More(end, next, n));
             }
         }
     }
-    Ascent::Over(k, p)
+    Ok(Ascent::Over(k, p))
 }
 
 // One pair of brackets more: in the innermost frame, if that is of brackets and has room for one more.
@@ -140,8 +115,14 @@ fn add_pair(frames: &mut [u16], used: usize) -> usize
     used + 1
 }
 
-// Pass the tags that keep the level before a type, as far as there are frames for them.
-pub fn descend(sig: &[u8], pos: usize, frames: &mut [u16], used: usize) -> Descent
+// Pass the tags that keep the level before a type, as far as there are frames for them. Or the position at which the reading fails, and
+// the type bytes passed.
+pub fn descend(
+    sig: &[u8],
+    pos: usize,
+    frames: &mut [u16],
+    used: usize,
+) -> Result<Descent, (usize, usize)>
     requires { used ≤ length frames.old }
     ensures { Descends sig.now pos (stack frames.old used) used frames.new result }
 {
@@ -152,7 +133,12 @@ pub fn descend(sig: &[u8], pos: usize, frames: &mut [u16], used: usize) -> Desce
         match sig[p] {
             0x15 => {
                 if n == frames.len() {
-                    return Descent::At(p, n, true, m);
+                    return Ok(Descent {
+                        at: p,
+                        used: n,
+                        full: true,
+                        passed: m,
+                    });
                 }
                 frames[n] = FIRST_TYPE;
                 n += 1;
@@ -161,25 +147,32 @@ pub fn descend(sig: &[u8], pos: usize, frames: &mut [u16], used: usize) -> Desce
             }
             0x1D => {
                 if n == frames.len() {
-                    return Descent::At(p, n, true, m);
+                    return Ok(Descent {
+                        at: p,
+                        used: n,
+                        full: true,
+                        passed: m,
+                    });
                 }
                 n = add_pair(frames, n);
                 m += 1;
                 p += 1;
             }
+            // With map_err and the question mark the proof did not close.
             0x1F | 0x20 => match numbers::read_uint(sig, p + 1) {
-                Uint::Number(_, next) => {
+                Ok((_, next)) => {
                     m += 1;
                     p = next;
                 }
-                Uint::NoNumber(next) => {
-                    return Descent::Broken(next, m + 1);
-                }
+                Err(next) => return Err((next, m + 1)),
             },
-            _ => {
-                return Descent::At(p, n, false, m);
-            }
+            _ => break,
         }
     }
-    Descent::At(p, n, false, m)
+    Ok(Descent {
+        at: p,
+        used: n,
+        full: false,
+        passed: m,
+    })
 }

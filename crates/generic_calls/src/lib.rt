@@ -23,8 +23,7 @@ pub fn generic_count(
         Numbered (generic_count v class.0) result }
 {
     let count = NumberQuestion::GenericCount(class);
-    let asked = asks::ask_number(tables, strings, blob, options, 0, count);
-    asked.reply
+    asks::ask_number(tables, strings, blob, options, 0, count).reply
 }
 
 // The name of generic parameter g of a class.
@@ -41,6 +40,5 @@ pub fn generic_name(
         Named (generic_name v class.0 g) buf.old result buf.new }
 {
     let name = NameQuestion::GenericName(class, g);
-    let asked = asks::ask_name(tables, strings, blob, options, 0, name, buf);
-    asked.reply
+    asks::ask_name(tables, strings, blob, options, 0, name, buf).reply
 }

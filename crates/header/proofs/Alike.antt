@@ -2,25 +2,18 @@
 use mathlib.Core.Path.{◌≡◌, refl, ap, ap₂, ◌∙◌}
 use mathlib.Core.Bool.{Bool, true, false, cond}
 use mathlib.Core.List.{List}
-use Prim.Native.Nat.{ℕ, zero, suc, ◌+◌, ◌*◌, ◌-◌, ◌≤◌, ◌<◌}
+use Prim.Native.Nat.{ℕ, zero, suc, ◌+◌, ◌*◌, ◌≤◌, ◌<◌}
 use native.Mathlib.Omega.{arith}
 use borrow.Author.Tests.{eqb-true}
 use lib.Dec.{eqb, ltb}
 use lib.ListN.{length, get_or}
 use Rattle.numbers.specs.Bits.{bit_at, ones_below}
 use Rattle.numbers.specs.Fixed.{le_at}
-use Rattle.numbers.proofs.Bits.{ones-next, ones-rise}
 use Rattle.numbers.proofs.Fixed.{le_at-same}
 use Rattle.numbers.proofs.Lists.{tabulate-same}
 use Rattle.header.specs.Stream.{valid, row_count, row_counts, counts_end, over_limit, opened}
 use Rattle.header.specs.declared.Options.{Options}
-
--- Each set bit below 64 has its 4 bytes before the end of the counts.
-count-inside : (m k : ℕ) → k < 64 → bit_at m k ≡ 1 → ones_below m k + 1 ≤ ones_below m 64
-count-inside m k h b =
-    let a : k + 1 + (63 - k) ≡ 64 = omega arith in
-    let g : ones_below m (k + 1) ≤ ones_below m 64 = rw a at (ones-rise m (k + 1) (63 - k)) in
-    omega (arith, ones-next m k)
+use Rattle.header.proofs.CountLoop.{count-inside}
 
 module _ (t u : List ℕ) (len : length u ≡ length t) (e : (p : ℕ) → p < counts_end t → get_or u p 0 ≡ get_or t p 0) where
   valid_same : valid u ≡ valid t

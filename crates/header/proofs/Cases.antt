@@ -1,58 +1,27 @@
 -- Opening by its cases: what a caller cites. Assumes nothing.
-use mathlib.Core.Path.{◌≡◌, refl, ap, ◌∙◌}
+use mathlib.Core.Path.{◌≡◌, refl}
 use mathlib.Core.Bool.{Bool, true, false, cond}
 use mathlib.Core.List.{List}
-use Prim.Native.Nat.{ℕ, zero, suc, ◌+◌, ◌*◌, ◌≤◌, ◌<◌, min, zero-le}
+use Rattle.std.specs.Prelude.{Ok}
+use Prim.Native.Nat.{ℕ, zero, suc, ◌+◌, ◌≤◌, ◌<◌, zero-le}
 use native.Mathlib.Nat.{not-suc-le-zero}
 use native.Mathlib.Decide.{dec_lt}
 use native.Mathlib.Omega.{arith}
-use borrow.Author.Tests.{lt-ltb, le-ltb, ltb-false}
+use borrow.Author.Tests.{ltb-false}
 use lib.Dec.{ltb}
 use lib.ListN.{length, get_or, get_or-replicate, length-replicate, get_or-eq_default}
-use Rattle.numbers.specs.Bits.{bit_at, ones_below}
+use Rattle.numbers.specs.Bits.{bit_at}
 use Rattle.numbers.proofs.Lists.{table_at, tabulate-length}
 use Rattle.buffers.specs.declared.Refusal.{Refusal}
 use Rattle.buffers.specs.declared.Refusal.TheVariants.{ShortHeader, ShortCounts, TooManyRows}
-use Rattle.header.specs.Stream.{heap_sizes, valid, row_count, row_counts, counts_end, tables_start, over_limit, refused_header, opened}
+use Rattle.header.specs.Stream.{Opening, heap_sizes, row_count, row_counts, counts_end, tables_start, over_limit, refused_header, opened}
 use Rattle.header.specs.declared.Options.{Options}
-use Rattle.header.specs.declared.Header.{Header}
-use Rattle.header.specs.declared.Opened.TheVariants.{Ready}
 
-abbrev ready : List ℕ → Header
-ready s = record { answer = Ready; heap = heap_sizes s; first = tables_start s; counts = row_counts s }
-
-module _ (o : Options) (s : List ℕ) where
-  pub is-short : length s < 24 → refused_header ShortHeader ≡ opened o s
-  unfolding opened
-  is-short h = rw (lt-ltb (length s) 24 h)
-
-  module _ (h : 24 ≤ length s) where
-    pub is_cut : length s < counts_end s → refused_header ShortCounts ≡ opened o s
-    unfolding opened
-    is_cut k = rw (le-ltb (length s) 24 h, lt-ltb (length s) (counts_end s) k)
-
-    module _ (k : counts_end s ≤ length s) where
-      pub is-over : over_limit o.limit s 64 ≡ true → refused_header TooManyRows ≡ opened o s
-      unfolding opened
-      is-over e = rw (le-ltb (length s) 24 h, le-ltb (length s) (counts_end s) k, e)
-
-      is-ready : over_limit o.limit s 64 ≡ false → ready s ≡ opened o s
-      unfolding opened
-      is-ready e = rw (le-ltb (length s) 24 h, le-ltb (length s) (counts_end s) k, e)
-
-      -- A header that has each part as the code finds it.
-      pub is-opened :
-          over_limit o.limit s 64 ≡ false → (end first : ℕ) (counts : List ℕ)
-          → end ≡ counts_end s → first ≡ min (length s) (end + 4 * bit_at (heap_sizes s) 6) → counts ≡ row_counts s
-          → ◌≡◌ {A = Header} (record { answer = Ready; heap = heap_sizes s; first = first; counts = counts }) (opened o s)
-      is-opened e end first counts ee ef ec = rw (ef, ec, ee) (is-ready e)
-
--- The end of the counts, as the code finds it.
-pub end_is : (s : List ℕ) (mask n : ℕ) → mask ≡ valid s → n ≡ ones_below mask 64 → 24 + 4 * n ≡ counts_end s
-end_is s mask n e h = ap (λ (x : ℕ). 24 + 4 * x) (h ∙ ap (λ (x : ℕ). ones_below x 64) e)
+abbrev ready : List ℕ → Opening
+ready s = record { answer = Ok tt; heap = heap_sizes s; first = tables_start s; counts = row_counts s }
 
 -- Opening by its two ends: what holds of every refusal, and of a stream whose counts are there and within the limit.
-opened-by : (P : Header → Type 0) (o : Options) (s : List ℕ) → ((why : Refusal) → P (refused_header why))
+opened-by : (P : Opening → Type 0) (o : Options) (s : List ℕ) → ((why : Refusal) → P (refused_header why))
     → (counts_end s ≤ length s → over_limit o.limit s 64 ≡ false → P (ready s)) → P (opened o s)
 unfolding opened
 opened-by P o s none all = go (ltb (length s) 24) (ltb (length s) (counts_end s)) (over_limit o.limit s 64) refl refl
@@ -66,16 +35,16 @@ opened-by P o s none all = go (ltb (length s) 24) (ltb (length s) (counts_end s)
 
 -- The first table begins within the stream, and four bytes after the counts at most;
 pub first-within : (o : Options) (s : List ℕ) → (opened o s).first ≤ length s
-first-within o s = opened-by (λ (h : Header). h.first ≤ length s) o s (λ why. zero-le) (λ l e. omega arith)
+first-within o s = opened-by (λ (h : Opening). h.first ≤ length s) o s (λ why. zero-le) (λ l e. omega arith)
 
 pub first-most : (o : Options) (s : List ℕ) → (opened o s).first ≤ counts_end s + 4
 unfolding bit_at
-first-most o s = opened-by (λ (h : Header). h.first ≤ counts_end s + 4) o s (λ why. zero-le) (λ l e. omega arith)
+first-most o s = opened-by (λ (h : Opening). h.first ≤ counts_end s + 4) o s (λ why. zero-le) (λ l e. omega arith)
 
 -- and that of a stream that opens begins after the counts.
-pub ready-first : (o : Options) (s : List ℕ) → (opened o s).answer ≡ Ready → counts_end s ≤ (opened o s).first
+pub ready-first : (o : Options) (s : List ℕ) → (opened o s).answer ≡ Ok tt → counts_end s ≤ (opened o s).first
 ready-first o s =
-    opened-by (λ (h : Header). h.answer ≡ Ready → counts_end s ≤ h.first) o s (λ why r. let z : ◌≡◌ {A = ℕ} 0 1 = cc in absurd (omega arith))
+    opened-by (λ (h : Opening). h.answer ≡ Ok tt → counts_end s ≤ h.first) o s (λ why r. let z : ◌≡◌ {A = ℕ} 0 1 = cc in absurd (omega arith))
     (λ l e r. omega arith)
 
 -- No count of an opened stream is over the limit.
@@ -94,13 +63,13 @@ few-below limit s (suc n) k e h = go (ltb limit (row_count s n)) refl e (dec_lt 
 
 pub few-counted : (o : Options) (s : List ℕ) (k : ℕ) → k < 64 → get_or (opened o s).counts k 0 ≤ o.limit
 few-counted o s k h =
-    opened-by (λ (x : Header). get_or x.counts k 0 ≤ o.limit) o s (λ why. rw (get_or-replicate {A = ℕ} 64 k 0 0 h) zero-le)
+    opened-by (λ (x : Opening). get_or x.counts k 0 ≤ o.limit) o s (λ why. rw (get_or-replicate {A = ℕ} 64 k 0 0 h) zero-le)
     (λ l e. rw (table_at (row_count s) 0 64 k h) (few-below o.limit s 64 k e h))
 
 -- There are 64 counts: no kind past the last has rows, so that no count at all is over the limit.
 counts-many : (o : Options) (s : List ℕ) → length (opened o s).counts ≡ 64
 counts-many o s =
-    opened-by (λ (h : Header). length h.counts ≡ 64) o s (λ why. length-replicate {A = ℕ} 64 0) (λ l e. tabulate-length (row_count s) 0 64)
+    opened-by (λ (h : Opening). length h.counts ≡ 64) o s (λ why. length-replicate {A = ℕ} 64 0) (λ l e. tabulate-length (row_count s) 0 64)
 
 pub all-counted : (o : Options) (s : List ℕ) (k : ℕ) → get_or (opened o s).counts k 0 ≤ o.limit
 all-counted o s k = go (dec_lt k 64)

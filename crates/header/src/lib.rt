@@ -2,9 +2,9 @@
 
 #![tactic(auto)]
 
-ghost use Rattle.std.specs.Prelude.{◌≡◌, true, ◌+◌, ◌*◌, ◌≤◌, min, length};
+ghost use Rattle.std.specs.Prelude.{◌≡◌, ◌+◌, ◌*◌, ◌≤◌, min, length};
 ghost use Rattle.numbers.specs.Bits.{bit_at, ones_below};
-ghost use Rattle.header.specs.Stream.{base, valid, counts_end, refused_header, opened, CountsRead};
+ghost use Rattle.header.specs.Stream.{base, valid, counts_end, header_says, opened, CountsRead};
 
 use buffers::Refusal;
 
@@ -17,26 +17,15 @@ pub struct Options {
     pub taker: bool,
 }
 
-#[derive(Drop)]
-pub enum Opened {
-    Refused(Refusal),
-    Ready,
-}
+// That a stream opens, or why not.
+pub type Opened = Result<(), Refusal>;
 
 // What opening finds: the heap sizes, where the first table begins, and the rows of each of the 64 kinds.
-#[derive(Drop)]
+#[derive(Clone, Copy)]
 pub struct Header {
-    pub answer: Opened,
     pub heap: u8,
     pub first: usize,
     pub counts: [u32; 64],
-}
-
-// Row counts, or that one is over the limit.
-#[derive(Drop)]
-struct Counts {
-    over: bool,
-    counts: [u32; 64],
 }
 
 pub fn base_options() -> Options
@@ -49,52 +38,35 @@ pub fn base_options() -> Options
     }
 }
 
-fn refuse(why: Refusal) -> Header
-    ensures { result ≡ refused_header why }
-{
-    Header {
-        answer: Opened::Refused(why),
-        heap: 0,
-        first: 0,
-        counts: [0; 64],
-    }
-}
-
 // How many bits of the mask are set.
 fn count_ones(mask: u64) -> usize
-    ensures { result ≡ ones_below mask 64 }
+    ensures { (result ≡ ones_below mask 64) × (result ≤ 64) }
 {
-    u64::count_ones(mask) as usize
+    mask.count_ones() as usize
 }
 
-// A count for each set bit of the mask, lowest bit first.
-fn read_counts(s: &[u8], mask: u64, limit: u32) -> Counts
+// A count for each set bit of the mask, lowest bit first; refusal 3 if one is over the limit.
+fn read_counts(s: &[u8], mask: u64, limit: u32) -> Result<[u32; 64], Refusal>
     requires { (mask ≡ valid s.now) × (counts_end s.now ≤ length s.now) }
-    ensures { CountsRead limit s.now result.over result.counts }
+    ensures { CountsRead limit s.now result }
 {
-    let mut counts = [0u32; 64];
-    let mut m = mask;
+    let mut counts = [0; 64];
     let mut at = 24;
-    let mut kind = 0;
-    while 0 < m {
-        if m % 2 == 1 {
+    for kind in 0..64 {
+        if (mask >> kind) % 2 == 1 {
             let n = numbers::read_four(s, at);
             if limit < n {
-                return Counts { over: true, counts };
+                return Err(Refusal::TooManyRows);
             }
             counts[kind] = n;
             at += 4;
         }
-        m = m / 2;
-        kind += 1;
     }
-    Counts {
-        over: false,
-        counts,
-    }
+    Ok(counts)
 }
 
 // Where the first table begins, after counts that end there.
+#[tactic(auto, unfolding(numbers::specs::Bits::bit_at))]
 fn tables_start(len: usize, end: usize, heap: u8) -> usize
     requires { end ≤ len }
     ensures { result ≡ min len (end + 4 * bit_at heap 6) }
@@ -108,28 +80,24 @@ fn tables_start(len: usize, end: usize, heap: u8) -> usize
     end + 4
 }
 
-pub fn read_header(s: &[u8], options: Options) -> Header
-    ensures { result ≡ opened options s.now }
+#[tactic(auto, unfolding(crate::specs::Stream::opened))]
+pub fn read_header(s: &[u8], options: Options) -> Result<Header, Refusal>
+    ensures { header_says result ≡ opened options s.now }
 {
     if s.len() < 24 {
-        return refuse(Refusal::ShortHeader);
+        return Err(Refusal::ShortHeader);
     }
     let mask = numbers::read_le(s, 8, 8);
     let end = 24 + 4 * count_ones(mask);
     if s.len() < end {
-        return refuse(Refusal::ShortCounts);
+        return Err(Refusal::ShortCounts);
     }
-    let read = read_counts(s, mask, options.limit);
-    if read.over {
-        return refuse(Refusal::TooManyRows);
-    }
-    let counts = read.counts;
+    let counts = read_counts(s, mask, options.limit)?;
     let heap = s[6];
     let first = tables_start(s.len(), end, heap);
-    Header {
-        answer: Opened::Ready,
+    Ok(Header {
         heap,
         first,
         counts,
-    }
+    })
 }

@@ -3,9 +3,9 @@ use mathlib.Core.Path.{◌≡◌, sym, ap, subst, ◌∙◌}
 use mathlib.Core.List.{List, ◌++◌}
 use mathlib.Core.Logic.{◌≢◌, ⊎_elim}
 use Prim.Native.Nat.{ℕ, zero, suc, ◌+◌, ◌-◌, ◌*◌, ◌≤◌, ◌<◌}
-use native.Mathlib.Nat.{eq-or-lt_of_le}
 use native.Mathlib.Omega.{arith}
 use lib.ListN.{length, get_or, set, take, drop, length-set, length-append, length-drop, get_or-append}
+use Rattle.std.proofs.lemmas.List.{get_or-drop, get_or-append_right}
 use lib.Seq.{get_or-set_same, get_or-set_other, get_or-take, length-take-le, take_at, drop_at}
 use Rattle.numbers.specs.Parts.{part}
 use Rattle.rows.specs.Columns as columns
@@ -14,31 +14,18 @@ use Rattle.rows.proofs.Laws.{same_or_not}
 use Rattle.rows.proofs.Memory.{sorted_none, nested-none, held_none, part_length, part_same, same-options, relaid}
 use Rattle.holding.specs.Holding.{Told, Bare, Holding, Held}
 
--- ---- The copy: of the first words i are done
+-- ---- The copy: v is the memory with its first words zeroed, where the first ones of the layout are then put
 
-pub record Copying (l w : List ℕ) (i : ℕ) : Type 0 where
-  pub most : i ≤ columns.held
-  pub long : columns.size ≤ length w
-  pub done : (k : ℕ) → k < i → get_or w k 0 ≡ get_or l k 0
-  pub left : (k : ℕ) → i ≤ k → k < columns.size → get_or w k 0 ≡ 0
-
-pub copy_start : (l w : List ℕ) → columns.size ≤ length w → ((k : ℕ) → k < columns.size → get_or w k 0 ≡ 0) → Copying l w 0
-copy_start l w h z = record { most = omega arith; long = h; done = λ k b. absurd (omega arith); left = λ k a b. z k b }
-
-pub copy-turn : (l w : List ℕ) (i x : ℕ) → i < columns.held → x ≡ get_or l i 0 → Copying l w i → Copying l (set w i x) (i + 1)
-copy-turn l w i x h e c =
+pub copied : (l v m : List ℕ) → columns.size ≤ length l → ((k : ℕ) → k < columns.size → get_or v k 0 ≡ 0) → m ≡ take columns.held l → Bare l (m ++ drop columns.held v)
+copied l v m h z e =
+    let long : length m ≡ columns.held = ap length e ∙ length-take-le columns.held l (omega arith) in
     record {
-      most = omega arith;
-      long = omega (arith, c.long, length-set w i x);
-      done = λ k b.
-          ⊎_elim (λ q. ap (λ (y : ℕ). get_or (set w i x) y 0) q ∙ get_or-set_same w i x 0 (omega (arith, c.long)) ∙ e ∙ ap (λ (y : ℕ). get_or l y 0) (sym q))
-          (λ d. get_or-set_other w i k x 0 (λ q. omega arith) ∙ c.done k d) (eq-or-lt_of_le {n = k} {m = i} (omega arith));
-      left = λ k a b. get_or-set_other w i k x 0 (λ q. omega arith) ∙ c.left k (omega arith) b;
+      same = λ i b. get_or-append m (drop columns.held v) 0 i (omega arith) ∙ ap (λ (x : List ℕ). get_or x i 0) e ∙ get_or-take columns.held l i 0 b;
+      none = λ i a b.
+          let q : columns.held + (i - columns.held) ≡ i = omega arith in
+          get_or-append_right m (drop columns.held v) columns.held i 0 long a ∙ get_or-drop columns.held v (i - columns.held) 0
+          ∙ ap (λ (x : ℕ). get_or v x 0) q ∙ z i b;
     }
-
-pub copy-end : (l w : List ℕ) (i : ℕ) → columns.held ≤ i → Copying l w i → Bare l w
-copy-end l w i h c =
-    record { same = λ k b. c.done k (omega arith); none = λ k a b. c.left k (omega (arith, c.most)) b }
 
 -- ---- The start
 

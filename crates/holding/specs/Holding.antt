@@ -1,8 +1,9 @@
 -- What filling the memories of a layout does, and what it must not change.
-use Rattle.std.specs.Prelude.{◌≡◌, List, ℕ, zero, suc, ◌+◌, ◌≤◌, ◌<◌, length, get_or}
+use Rattle.std.specs.Prelude.{◌≡◌, List, ℕ, zero, suc, ◌+◌, ◌≤◌, ◌<◌, length, get_or, Some, None}
 use Rattle.rows.specs.Columns as columns
 use Rattle.rows.specs.Layout.{Laid, options_in, rows_at, cell, held_start, held_length, held_at}
 use Rattle.rows.specs.Held.{Sorted, Nested}
+use Rattle.std.specs.declared.option.Option as std
 
 -- The words m are true of the stream t with the layout l as its memory of number j.
 abbrev pub Told : List ℕ → List ℕ → ℕ → List ℕ → Type 0
@@ -15,6 +16,11 @@ Told t l (suc (suc (suc j))) m = Sorted (cell t l columns.layout_parent) (rows_a
 pub record Bare (l w : List ℕ) : Type 0 where
   pub same : (i : ℕ) → i < columns.held → get_or w i 0 ≡ get_or l i 0
   pub none : (i : ℕ) → columns.held ≤ i → i < columns.size → get_or w i 0 ≡ 0
+
+-- Where a memory ends that begins at a place of n words; or that there is none.
+abbrev pub EndIs : ℕ → ℕ → std.Option ℕ → Type 0
+EndIs n at (Some end) = (at ≤ end) × (end ≤ n) × (end < columns.word)
+EndIs n at None = Unit {0}
 
 -- w begins with the words of the layout l of the stream t, and has true memories, which end before a place.
 pub record Holding (t l w : List ℕ) (at : ℕ) : Type 0 where

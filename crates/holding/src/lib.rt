@@ -9,7 +9,7 @@ ghost use Rattle.std.specs.Prelude.{◌≡◌, List, ℕ, ◌+◌, ◌-◌, ◌*
 ghost use Rattle.rows.specs.Columns as columns;
 ghost use Rattle.rows.specs.Layout.{Laid, rows_at, cell};
 ghost use Rattle.rows.specs.Held.{Sorted};
-ghost use Rattle.holding.specs.Holding.{Told, Bare, Holding, Held};
+ghost use Rattle.holding.specs.Holding.{Told, Bare, EndIs, Holding, Held};
 
 use rows::columns;
 
@@ -23,24 +23,13 @@ const NESTED_KEYS: usize = 2;
 
 const CLASS_KEYS: usize = 3;
 
-fn most(a: usize, b: usize) -> usize
-    requires { (a < columns.word) × (b < columns.word) }
-    ensures { result < columns.word }
-{
-    if a < b { b } else { a }
-}
-
 // The layout's words without those of the memories, which are 0.
 fn copy_layout(work: &mut [u32], layout: &[u32])
     requires { (columns.size ≤ length work.old) × (columns.size ≤ length layout.now) }
     ensures { Bare layout.now work.new }
 {
     numbers::clear_words(&mut work[..columns::SIZE]);
-    let mut i = 0;
-    while i < columns::HELD {
-        work[i] = layout[i];
-        i += 1;
-    }
+    work[..columns::HELD].copy_from_slice(&layout[..columns::HELD]);
 }
 
 // Say where the memory of number j is.
@@ -52,6 +41,18 @@ fn note_memory(work: &mut [u32], j: usize, start: usize, end: usize)
     let at = columns::HELD + columns::HELD_NUMBERS * j;
     work[at] = start as u32;
     work[at + columns::HELD_WORDS] = (end - start) as u32;
+}
+
+// Where the memory of n rows and so many keys ends, from a place on among so many words; none without rows, or where there is no room.
+fn memory_end(len: usize, at: usize, keys: usize, n: usize) -> Option<usize>
+    requires { (at ≤ len) × (len < 9223372036854775808) × (keys < 3 * columns.word) × (n < columns.word) }
+    ensures { EndIs len at result }
+{
+    let end = at + keys + n;
+    if n == 0 || len < end || columns::WORD <= end {
+        return None;
+    }
+    Some(end)
 }
 
 // The rows of a table by a column, from a place on, with so many keys, where there are words for them: the place behind.
@@ -71,16 +72,9 @@ fn hold_sorted(
     ensures { Holding tables.now layout.now work.new result }
 {
     let n = rows::count_rows(layout, column);
-    if n == 0 {
+    let Some(end) = memory_end(work.len(), at, keys, n) else {
         return at;
-    }
-    let end = at + keys + n;
-    if work.len() < end {
-        return at;
-    }
-    if columns::WORD <= end {
-        return at;
-    }
+    };
     buckets::sort_rows(&mut work[at..end], tables, layout, column);
     note_memory(work, j, at, end);
     end
@@ -94,16 +88,9 @@ fn hold_nested(work: &mut [u32], tables: &[u8], layout: &[u32], at: usize, keys:
     ensures { Holding tables.now layout.now work.new result }
 {
     let n = rows::count_rows(layout, columns::NESTED);
-    if n == 0 {
+    let Some(end) = memory_end(work.len(), at, keys, n) else {
         return at;
-    }
-    let end = at + keys + n;
-    if work.len() < end {
-        return at;
-    }
-    if columns::WORD <= end {
-        return at;
-    }
+    };
     nests::nest_rows(&mut work[at..end], tables, layout);
     note_memory(work, columns::BY_NESTED, at, end);
     end
@@ -118,7 +105,7 @@ pub fn hold(work: &mut [u32], tables: &[u8], layout: &[u32])
     copy_layout(work, layout);
     let types = rows::count_rows(layout, columns::TYPE_NAME);
     let methods = rows::count_rows(layout, columns::METHOD_NAME);
-    let owners = OWNERS * most(types, methods) + OWNER_KEYS;
+    let owners = OWNERS * types.max(methods) + OWNER_KEYS;
     let nested_at = hold_sorted(
         work,
         tables,

@@ -4,7 +4,7 @@ use mathlib.Core.Path.{◌≡◌, refl, sym, ap, ◌∙◌, subst}
 use mathlib.Core.Bool.{Bool, true, false, cond}
 use mathlib.Core.List.{List, [], ◌∷◌, ◌++◌}
 use mathlib.Core.Option.{none, some}
-use Prim.Native.Nat.{ℕ, zero, suc, ◌+◌, ◌-◌, ◌≤◌, ◌<◌}
+use Prim.Native.Nat.{ℕ, zero, suc, ◌+◌, ◌≤◌, ◌<◌}
 use native.Mathlib.Numerals.{add-one}
 use native.Mathlib.Omega.{arith}
 use borrow.Author.Tests.{eq-eqb, ne_eqb}
@@ -22,9 +22,8 @@ use Rattle.rows.specs.Columns as columns
 use Rattle.rows.specs.Layout.{options_in, header_in, rows_at, cell, Laid, view_in}
 use Rattle.rows.specs.Held.{keyed}
 use Rattle.rows.proofs.Laws.{rows-at}
-use Rattle.keys.specs.Keyed.{FoundIs}
-use Rattle.keys.specs.declared.Row.{Row}
-use Rattle.keys.specs.declared.Row.TheVariants.{At, NoRow}
+use Rattle.keys.specs.Keyed.{Row, FoundIs}
+use Rattle.std.specs.Prelude.{Some, None}
 
 -- The turns of a scan: x is what was read of row i.
 module _ (f : ℕ → ℕ) (k i : ℕ) {x seen : ℕ} (read : x ≡ f i) where
@@ -95,12 +94,12 @@ module _ {t l : List ℕ} (laid : Laid t l) where
     listed-count : length listed ≡ keyed (cell t l c) k (rows_at l c)
     listed-count = rw (rows-at laid c known) (of_key-length (key_of c) value (row_of c) k _)
 
-    listed-item : (nth i : ℕ) → FoundIs (cell t l c) k (rows_at l c) nth (At i) → get_elem? listed nth ≡ some (value (row_of c i))
+    listed-item : (nth i : ℕ) → FoundIs (cell t l c) k (rows_at l c) nth (Some i) → get_elem? listed nth ≡ some (value (row_of c i))
     listed-item nth i h =
         of_key-item (key_of c) value (row_of c) k (side_rows (options_in l) (header_in t l) t (read_column c).kind) nth i
         (rw (rows-at laid c known) at h.0) h.1 h.2
 
-    listed-past : (nth : ℕ) → FoundIs (cell t l c) k (rows_at l c) nth NoRow → get_elem? listed nth ≡ none
+    listed-past : (nth : ℕ) → FoundIs (cell t l c) k (rows_at l c) nth None → get_elem? listed nth ≡ none
     listed-past nth h =
         of_key-past (key_of c) value (row_of c) k (side_rows (options_in l) (header_in t l) t (read_column c).kind) nth (rw (rows-at laid c known) at h)
 
@@ -122,23 +121,23 @@ module _ {t l : List ℕ} (laid : Laid t l) (strings blob : List ℕ) (k : ℕ) 
   unfolding view_of
   generics-count = listed-count laid columns.owner (omega arith) name_at k
 
-  pub generics-item : (nth i : ℕ) → Finds nth (At i) → (i < rows_at l columns.generic_name) × (get_elem? names nth ≡ some (name strings (cell t l columns.generic_name i)))
+  pub generics-item : (nth i : ℕ) → Finds nth (Some i) → (i < rows_at l columns.generic_name) × (get_elem? names nth ≡ some (name strings (cell t l columns.generic_name i)))
   unfolding view_of
   generics-item nth i h =
       let a = rows-at laid columns.owner (omega arith) in
       let b = rows-at laid columns.generic_name (omega arith) in
       (omega arith, listed-item laid columns.owner (omega arith) name_at k nth i h)
 
-  pub generics-past : (nth : ℕ) → Finds nth NoRow → get_elem? names nth ≡ none
+  pub generics-past : (nth : ℕ) → Finds nth None → get_elem? names nth ≡ none
   unfolding view_of
   generics-past nth h = listed-past laid columns.owner (omega arith) name_at k nth h
 
   -- The same of an answer that was matched.
-  pub generics-found : (nth i : ℕ) {r : Row} → Finds nth r → r ≡ At i
+  pub generics-found : (nth i : ℕ) {r : Row} → Finds nth r → r ≡ Some i
       → (i < rows_at l columns.generic_name) × (get_elem? names nth ≡ some (name strings (cell t l columns.generic_name i)))
   generics-found nth i h e = generics-item nth i (subst (Finds nth) e h)
 
-  pub generics-missed : (nth : ℕ) {r : Row} → Finds nth r → r ≡ NoRow → get_elem? names nth ≡ none
+  pub generics-missed : (nth : ℕ) {r : Row} → Finds nth r → r ≡ None → get_elem? names nth ≡ none
   generics-missed nth h e = generics-past nth (subst (Finds nth) e h)
 
 -- ---- The interfaces of a class, by the view
@@ -155,7 +154,7 @@ module _ {t l : List ℕ} (laid : Laid t l) (strings blob : List ℕ) (k : ℕ) 
   unfolding view_of
   interfaces-count = listed-count laid columns.impl_class (omega arith) interface_at k
 
-  pub interfaces-found : (nth i : ℕ) {r : Row} → FindsClass nth r → r ≡ At i
+  pub interfaces-found : (nth i : ℕ) {r : Row} → FindsClass nth r → r ≡ Some i
       → (i < rows_at l columns.impl_class) × (i < rows_at l columns.impl_interface)
       × (get_elem? ((view_in t l strings blob).interfaces k) nth ≡ some (cell t l columns.impl_interface i))
   unfolding view_of
@@ -165,12 +164,12 @@ module _ {t l : List ℕ} (laid : Laid t l) (strings blob : List ℕ) (k : ℕ) 
       let b = rows-at laid columns.impl_interface (omega arith) in
       (found.0, omega (arith, found.0), listed-item laid columns.impl_class (omega arith) interface_at k nth i found)
 
-  pub interfaces-missed : (nth : ℕ) {r : Row} → FindsClass nth r → r ≡ NoRow → get_elem? ((view_in t l strings blob).interfaces k) nth ≡ none
+  pub interfaces-missed : (nth : ℕ) {r : Row} → FindsClass nth r → r ≡ None → get_elem? ((view_in t l strings blob).interfaces k) nth ≡ none
   unfolding view_of
   interfaces-missed nth h e = listed-past laid columns.impl_class (omega arith) interface_at k nth (subst (FindsClass nth) e h)
 
   -- Behind the row that was found there is one more of the class.
-  pub interfaces-passed : (nth i : ℕ) {r : Row} → FindsClass nth r → r ≡ At i → nth + 1 ≡ keyed (cell t l columns.impl_class) k (i + 1)
+  pub interfaces-passed : (nth i : ℕ) {r : Row} → FindsClass nth r → r ≡ Some i → nth + 1 ≡ keyed (cell t l columns.impl_class) k (i + 1)
   interfaces-passed nth i h e = let found = subst (FindsClass nth) e h in key-met _ k i refl found.1 (sym found.2)
 
 -- ---- The first ClassLayout row of a class, by the view
@@ -183,11 +182,11 @@ module _ {t l : List ℕ} (laid : Laid t l) (strings blob : List ℕ) (k : ℕ) 
   abbrev layout_at : List ℕ → ClassLayout
   layout_at = layout_in (sizes_in (options_in l) (header_in t l))
 
-  pub layout-found : (i : ℕ) → FindsParent (At i)
+  pub layout-found : (i : ℕ) → FindsParent (Some i)
       → (view_in t l strings blob).layout k ≡ some (record { packing = cell t l columns.packing_size i; size = cell t l columns.class_size i })
   unfolding view_of
   layout-found i h = listed-item laid columns.layout_parent (omega arith) layout_at k 0 i h
 
-  pub layout-missed : FindsParent NoRow → (view_in t l strings blob).layout k ≡ none
+  pub layout-missed : FindsParent None → (view_in t l strings blob).layout k ≡ none
   unfolding view_of
   layout-missed h = listed-past laid columns.layout_parent (omega arith) layout_at k 0 h

@@ -9,18 +9,14 @@ ghost use Rattle.rows.specs.Layout.{Laid, rows_at, cell};
 ghost use Rattle.rows.specs.Held.{keyed, Sorted};
 ghost use Rattle.keys.specs.Keyed.{FoundIs, BucketIs};
 
-// A row of a table, counted from 0.
-#[derive(Drop)]
-pub enum Row {
-    At(usize),
-    NoRow,
-}
+use numbers::wide;
+use rows::columns;
 
-// Where a key's rows stand among the sorted ones; or that there is no room for the key.
-#[derive(Drop)]
-enum Bucket {
-    Among { first: usize, end: usize },
-    NoRoom,
+// Where a key's rows stand among the sorted ones.
+#[derive(Clone, Copy)]
+struct Bucket {
+    first: usize,
+    end: usize,
 }
 
 // The memory of a column, where its rows are sorted by it; no words for a column that has none.
@@ -28,36 +24,26 @@ fn memory_of<'a>(tables: &[u8], layout: &'a [u32], column: usize) -> &'a [u32]
     requires { Laid tables.now layout.now }
     ensures { Sorted (cell tables.now layout.now column) (rows_at layout.now column) result.now }
 {
-    if column == rows::columns::OWNER {
-        return rows::memory_at(layout, rows::columns::BY_OWNER);
+    match column {
+        columns::OWNER => rows::memory_at(layout, columns::BY_OWNER),
+        columns::IMPL_CLASS => rows::memory_at(layout, columns::BY_CLASS),
+        columns::LAYOUT_PARENT => rows::memory_at(layout, columns::BY_PARENT),
+        _ => &layout[..0],
     }
-    if column == rows::columns::IMPL_CLASS {
-        return rows::memory_at(layout, rows::columns::BY_CLASS);
-    }
-    if column == rows::columns::LAYOUT_PARENT {
-        return rows::memory_at(layout, rows::columns::BY_PARENT);
-    }
-    &layout[..0]
 }
 
-// Where the rows of a key stand among n sorted ones.
-fn bucket_of(memory: &[u32], n: usize, key: usize) -> Bucket
+// Where the rows of a key stand among n sorted ones, if there is room for the key.
+fn bucket_of(memory: &[u32], n: usize, key: usize) -> Option<Bucket>
     ensures { (f : ℕ → ℕ) → Sorted f n memory.now → BucketIs f n memory.now key result }
 {
-    if memory.len() < n {
-        return Bucket::NoRoom;
+    let room = memory.len().checked_sub(n)?;
+    if room <= key || room <= key + 1 {
+        return None;
     }
-    let room = memory.len() - n;
-    if room <= key {
-        return Bucket::NoRoom;
-    }
-    if room <= key + 1 {
-        return Bucket::NoRoom;
-    }
-    Bucket::Among {
-        first: numbers::wide(memory[key]),
-        end: numbers::wide(memory[key + 1]),
-    }
+    Some(Bucket {
+        first: wide(memory[key]),
+        end: wide(memory[key + 1]),
+    })
 }
 
 // How many rows have the key, by reading them all.
@@ -67,11 +53,9 @@ fn count_scanned(tables: &[u8], layout: &[u32], column: usize, key: usize) -> us
     ensures { result ≡ keyed (cell tables.now layout.now column) key (rows_at layout.now column) }
 {
     let n = rows::count_rows(layout, column);
-    let mut i = 0;
     let mut seen = 0;
-    while i < n {
+    for i in 0..n {
         let here = rows::read_column(tables, layout, column, i);
-        i += 1;
         if here as usize == key {
             seen += 1;
         }
@@ -79,28 +63,18 @@ fn count_scanned(tables: &[u8], layout: &[u32], column: usize, key: usize) -> us
     seen
 }
 
-// The same by the memory of the column; the rows of a key for which it has no room are counted one by one.
-fn count_sorted(memory: &[u32], tables: &[u8], layout: &[u32], column: usize, key: usize) -> usize
-    requires laid { Laid tables.now layout.now }
-    requires column_lt_count { column < columns.count }
-    requires sorted { Sorted (cell tables.now layout.now column) (rows_at layout.now column) memory.now }
-    ensures { result ≡ keyed (cell tables.now layout.now column) key (rows_at layout.now column) }
-{
-    let n = rows::count_rows(layout, column);
-    match bucket_of(memory, n, key) {
-        Bucket::Among { first, end } => end - first,
-        Bucket::NoRoom => count_scanned(tables, layout, column, key),
-    }
-}
-
-// How many rows have the key.
+// How many rows have the key, by the memory of the column; the rows of a key for which it has no room are counted one by one.
 pub fn count_key(tables: &[u8], layout: &[u32], column: usize, key: usize) -> usize
     requires laid { Laid tables.now layout.now }
     requires column_lt_count { column < columns.count }
     ensures { result ≡ keyed (cell tables.now layout.now column) key (rows_at layout.now column) }
 {
+    let n = rows::count_rows(layout, column);
     let memory = memory_of(tables, layout, column);
-    count_sorted(memory, tables, layout, column, key)
+    match bucket_of(memory, n, key) {
+        Some(bucket) => bucket.end - bucket.first,
+        None => count_scanned(tables, layout, column, key),
+    }
 }
 
 // The row of the key that has nth rows of that key before it, by reading the rows on from one of which it is known how many of the key are
@@ -113,59 +87,33 @@ fn find_scanned(
     nth: usize,
     from: usize,
     passed: usize,
-) -> Row
+) -> Option<usize>
     requires laid { Laid tables.now layout.now }
     requires column_lt_count { (column < columns.count) × (from ≤ rows_at layout.now column)
         × (passed ≡ keyed (cell tables.now layout.now column) key from) × (passed ≤ nth) }
     ensures { FoundIs (cell tables.now layout.now column) key (rows_at layout.now column) nth result }
 {
     let n = rows::count_rows(layout, column);
-    let mut i = from;
     let mut seen = passed;
-    while i < n {
-        let at = i;
-        i += 1;
-        if rows::read_column(tables, layout, column, at) as usize == key {
+    for i in from..n {
+        if rows::read_column(tables, layout, column, i) as usize == key {
             if seen == nth {
-                return Row::At(at);
+                return Some(i);
             }
             seen += 1;
         }
     }
-    Row::NoRow
+    None
 }
 
-// The same by the memory of the column; a key for which it has no room is searched for among the rows.
-fn find_sorted(
-    memory: &[u32],
+// The row of the key that has nth rows of that key before it.
+pub fn find_key(
     tables: &[u8],
     layout: &[u32],
     column: usize,
     key: usize,
     nth: usize,
-    from: usize,
-    passed: usize,
-) -> Row
-    requires laid { Laid tables.now layout.now }
-    requires column_lt_count { (column < columns.count) × (from ≤ rows_at layout.now column)
-        × (passed ≡ keyed (cell tables.now layout.now column) key from) × (passed ≤ nth) }
-    requires sorted { Sorted (cell tables.now layout.now column) (rows_at layout.now column) memory.now }
-    ensures { FoundIs (cell tables.now layout.now column) key (rows_at layout.now column) nth result }
-{
-    let n = rows::count_rows(layout, column);
-    match bucket_of(memory, n, key) {
-        Bucket::Among { first, end } => {
-            if end - first <= nth {
-                return Row::NoRow;
-            }
-            Row::At(numbers::wide(memory[memory.len() - n + (first + nth)]))
-        }
-        Bucket::NoRoom => find_scanned(tables, layout, column, key, nth, from, passed),
-    }
-}
-
-// The row of the key that has nth rows of that key before it.
-pub fn find_key(tables: &[u8], layout: &[u32], column: usize, key: usize, nth: usize) -> Row
+) -> Option<usize>
     requires laid { Laid tables.now layout.now }
     requires column_lt_count { column < columns.count }
     ensures { FoundIs (cell tables.now layout.now column) key (rows_at layout.now column) nth result }
@@ -173,7 +121,8 @@ pub fn find_key(tables: &[u8], layout: &[u32], column: usize, key: usize, nth: u
     find_key_from(tables, layout, column, key, nth, 0, 0)
 }
 
-// The same, by one who knows how many rows of the key are before some row: where rows are read, they are from there on.
+// The same, by one who knows how many rows of the key are before some row. The memory of the column tells it; a key for which that has no
+// room is searched for among the rows, from there on.
 pub fn find_key_from(
     tables: &[u8],
     layout: &[u32],
@@ -182,12 +131,19 @@ pub fn find_key_from(
     nth: usize,
     from: usize,
     passed: usize,
-) -> Row
+) -> Option<usize>
     requires laid { Laid tables.now layout.now }
     requires column_lt_count { (column < columns.count) × (from ≤ rows_at layout.now column)
         × (passed ≡ keyed (cell tables.now layout.now column) key from) × (passed ≤ nth) }
     ensures { FoundIs (cell tables.now layout.now column) key (rows_at layout.now column) nth result }
 {
+    let n = rows::count_rows(layout, column);
     let memory = memory_of(tables, layout, column);
-    find_sorted(memory, tables, layout, column, key, nth, from, passed)
+    let Some(bucket) = bucket_of(memory, n, key) else {
+        return find_scanned(tables, layout, column, key, nth, from, passed);
+    };
+    if bucket.end - bucket.first <= nth {
+        return None;
+    }
+    Some(wide(memory[memory.len() - n + (bucket.first + nth)]))
 }

@@ -1,15 +1,15 @@
 -- Laws of `reaches`: a loop through the list of tables finds it, and only which tables occur in the list matters. Assumes nothing.
-use mathlib.Core.Path.{◌≡◌, refl, ◌∙◌}
-use mathlib.Core.Bool.{Bool, true, false, ◌&&◌, ◌||◌}
+use mathlib.Core.Path.{◌≡◌, refl}
+use mathlib.Core.Bool.{Bool, true, false, cond, ◌&&◌, ◌||◌}
 use mathlib.Core.List.{List, [], ◌∷◌}
-use Prim.Native.Nat.{ℕ, zero, suc, ◌+◌, ◌≤◌, ◌<◌}
-use native.Mathlib.Numerals.{add-one}
+use Prim.Native.Nat.{ℕ, zero, suc, ◌-◌, ◌^◌, ◌<◌}
 use native.Mathlib.Omega.{arith}
-use borrow.Author.Tests.{le-leb, lt-leb}
+use borrow.Author.Tests.{lt-leb}
 use lib.Dec.{T, leb, ltb, eqb, ltb→lt, eqb→eq, lit<}
-use lib.ListN.{length, get_or, drop, drop_of_length-le}
-use lib.Seq.{drop-cons}
-use Rattle.layouts.specs.Columns.{reaches}
+use lib.ListN.{get_or}
+use Rattle.std.specs.List.{list_any}
+use Rattle.std.proofs.lemmas.List.Recursion.{same_from_clauses}
+use Rattle.layouts.specs.Columns.{reaches, index_size}
 use Rattle.layouts.specs.Lists.{all_below}
 
 -- What a test of two parts says of each.
@@ -43,19 +43,14 @@ told : (b : Bool) → b ≡ true → T b
 told true e = tt
 told false e = let z : ◌≡◌ {A = ℕ} 0 1 = cc in absurd (omega arith)
 
--- The tables before position i do not reach n, as the loop of `coded_index_size` leaves it.
-module _ (cs : List ℕ) (n : ℕ) (ts : List ℕ) (i : ℕ) (e : reaches cs n ts ≡ reaches cs n (drop i ts)) where
-  pub found : i < length ts → n ≤ get_or cs (get_or ts i 0) 0 → reaches cs n ts ≡ true
-  unfolding reaches
-  found h k = e ∙ rw (drop-cons ts i 0 h, le-leb n (get_or cs (get_or ts i 0) 0) k)
+-- Whether table t has more rows than 16 bits less the tag can number, and the size of an index by whether std's test finds such a table.
+abbrev pub reached_at : List ℕ → ℕ → ℕ → Bool
+reached_at cs bits t = leb (2 ^ (16 - bits)) (get_or cs t 0)
 
-  pub passed : i < length ts → get_or cs (get_or ts i 0) 0 < n → reaches cs n ts ≡ reaches cs n (drop (i + 1) ts)
-  unfolding reaches
-  passed h k = e ∙ rw (drop-cons ts i 0 h, lt-leb n (get_or cs (get_or ts i 0) 0) k, add-one)
-
-  pub none : length ts ≤ i → reaches cs n ts ≡ false
-  unfolding reaches
-  none h = e ∙ rw (drop_of_length-le ts h)
+pub size-by_any : (cs : List ℕ) (bits : ℕ) (ts : List ℕ) {r : Bool} → r ≡ list_any (reached_at cs bits) ts → index_size cs bits ts ≡ cond r 4 2
+unfolding reaches index_size
+size-by_any cs bits ts e =
+    rw (e, same_from_clauses (reaches cs (2 ^ (16 - bits))) (list_any (reached_at cs bits)) (λ t b. reached_at cs bits t || b) refl (λ _ _. refl) (λ _ _. refl) ts)
 
 below_at : (n : ℕ) → 0 < n → (ts : List ℕ) → T (all_below n ts) → (i : ℕ) → get_or ts i 0 < n
 below_at n h [] t i = h

@@ -3,19 +3,17 @@ use mathlib.Core.Path.{◌≡◌, refl, ap, ◌∙◌}
 use mathlib.Core.Bool.{Bool, true, false, cond, ◌||◌}
 use mathlib.Core.List.{List, ◌∷◌}
 use Prim.Native.Nat.{ℕ, ◌-◌, ◌^◌}
-use lib.Dec.{T, leb, eqb, eqb→eq}
+use lib.Dec.{T, leb}
 use lib.ListN.{get_or}
 use Rattle.layouts.specs.declared.IndexSizes.{IndexSizes}
 use Rattle.layouts.specs.Kinds.{decl_security}
 use Rattle.layouts.specs.Columns.{reaches, index_size, has_custom_attribute}
 use Rattle.layouts.proofs.Reaches.{within, reordered}
 
--- A size as the code finds it, from a list of the same tables and the number of rows that the tag leaves.
-pub sized : (cs : List ℕ) (bits n : ℕ) (ts us : List ℕ) (x : ℕ) → x ≡ cond (reaches cs n ts) 4 2
-    → T (eqb n (2 ^ (16 - bits))) → T (within ts us) → T (within us ts) → x ≡ index_size cs bits us
+-- A size as the code finds it, from a list of the same tables.
+pub sized : (cs : List ℕ) (bits : ℕ) (ts us : List ℕ) {x : ℕ} → x ≡ index_size cs bits ts → T (within ts us) → T (within us ts) → x ≡ index_size cs bits us
 unfolding index_size
-sized cs bits n ts us x e q v w =
-    e ∙ ap (λ (b : Bool). cond b 4 2) (reordered cs n ts us v w) ∙ ap (λ (m : ℕ). cond (reaches cs m us) 4 2) (eqb→eq n (2 ^ (16 - bits)) q)
+sized cs bits ts us e v w = e ∙ ap (λ (b : Bool). cond b 4 2) (reordered cs (2 ^ (16 - bits)) ts us v w)
 
 -- DeclSecurity, where it counts, counts beside the others.
 module _ (cs : List ℕ) where

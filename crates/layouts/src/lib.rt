@@ -9,8 +9,8 @@ mod kinds;
 pub mod references;
 pub mod rows;
 
-ghost use Rattle.std.specs.Prelude.{◌≡◌, Bool, true, cond, [], ◌∷◌, ℕ, ◌+◌, ◌*◌, ◌<◌};
-ghost use Rattle.layouts.specs.Columns.{reaches, index_size, has_custom_attribute, index_sizes, coded_setting};
+ghost use Rattle.std.specs.Prelude.{◌≡◌, Bool, true, [], ◌∷◌, ℕ, ◌+◌, ◌*◌, ◌<◌, ◌≤◌, length, sum};
+ghost use Rattle.layouts.specs.Columns.{index_size, has_custom_attribute, index_sizes, coded_setting};
 ghost use Rattle.layouts.specs.Lists.{all_below};
 
 // The bytes that an index takes, 2 or 4.
@@ -56,36 +56,36 @@ fn heap_index_size(bit: u8) -> u8
     2 + 2 * bit
 }
 
-// An index into several tables: 4 bytes once one of them has so many rows.
-fn coded_index_size(counts: &[u32; 64], tables: &[u8], rows: u32) -> u8
-    requires { all_below 64 tables.now ≡ true }
-    ensures { result ≡ cond (reaches counts.now rows tables.now) 4 2 }
+// An index into any of these tables, by a tag of so many bits: 4 bytes from 2 ^ (16 - bits) rows of one of them on.
+fn coded_index_size(counts: &[u32; 64], bits: u32, tables: &[usize]) -> u8
+    requires { (bits ≤ 16) × (all_below 64 tables.now ≡ true) }
+    ensures { result ≡ index_size counts.now bits tables.now }
 {
-    for i in 0..tables.len() {
-        if rows <= counts[tables[i] as usize] {
-            return 4;
-        }
+    let rows = 1 << (16 - bits);
+    if tables.iter().any(|table| rows <= counts[*table]) {
+        return 4;
     }
     2
 }
 
 // An index into one table: no bits are left to a tag.
-fn index_size(counts: &[u32; 64], table: u8) -> u8
+fn index_size(counts: &[u32; 64], table: usize) -> u8
     requires { table < 64 }
     ensures { result ≡ index_size counts.now 0 (table ∷ []) }
 {
-    coded_index_size(counts, &[table], 65_536)
+    coded_index_size(counts, 0, &[table])
 }
 
 // The standard counts DeclSecurity here, and the Rust does not.
 fn has_custom_attribute_size(counts: &[u32; 64], decl_security: bool) -> u8
     ensures { result ≡ index_size counts.now 5 (has_custom_attribute decl_security) }
 {
-    if decl_security && 2_048 <= counts[kinds::DECL_SECURITY as usize] {
+    if decl_security && 2_048 <= counts[kinds::DECL_SECURITY] {
         return 4;
     }
     coded_index_size(
         counts,
+        5,
         &[
             kinds::MODULE,
             kinds::TYPE_REF,
@@ -109,7 +109,6 @@ fn has_custom_attribute_size(counts: &[u32; 64], decl_security: bool) -> u8
             kinds::METHOD_SPEC,
             kinds::GENERIC_PARAM_CONSTRAINT,
         ],
-        2_048,
     )
 }
 
@@ -118,6 +117,7 @@ fn member_ref_parent_size(counts: &[u32; 64]) -> u8
 {
     coded_index_size(
         counts,
+        3,
         &[
             kinds::TYPE_REF,
             kinds::TYPE_DEF,
@@ -125,17 +125,16 @@ fn member_ref_parent_size(counts: &[u32; 64]) -> u8
             kinds::MODULE_REF,
             kinds::TYPE_SPEC,
         ],
-        8_192,
     )
 }
 
 fn custom_attribute_type_size(counts: &[u32; 64]) -> u8
     ensures { (decl : Bool) (heap : ℕ) → result ≡ (index_sizes decl heap counts.now).custom_attribute_type }
 {
-    coded_index_size(counts, &[kinds::METHOD_DEF, kinds::MEMBER_REF], 8_192)
+    coded_index_size(counts, 3, &[kinds::METHOD_DEF, kinds::MEMBER_REF])
 }
 
-// All sizes, by the heap sizes and the rows of each table. A coded index of t tag bits has 4 bytes from 2 ^ (16 - t) rows on.
+// All sizes, by the heap sizes and the rows of each table.
 pub fn index_sizes(heap: u8, counts: &[u32; 64], decl_security: bool) -> IndexSizes
     ensures { result ≡ index_sizes decl_security heap counts.now }
 {
@@ -154,60 +153,47 @@ pub fn index_sizes(heap: u8, counts: &[u32; 64], decl_security: bool) -> IndexSi
         generic_param: index_size(counts, kinds::GENERIC_PARAM),
         type_def_or_ref: coded_index_size(
             counts,
+            2,
             &[kinds::TYPE_REF, kinds::TYPE_DEF, kinds::TYPE_SPEC],
-            16_384,
         ),
-        has_constant: coded_index_size(
-            counts,
-            &[kinds::FIELD, kinds::PARAM, kinds::PROPERTY],
-            16_384,
-        ),
+        has_constant: coded_index_size(counts, 2, &[kinds::FIELD, kinds::PARAM, kinds::PROPERTY]),
         has_custom_attribute: has_custom_attribute_size(counts, decl_security),
-        has_field_marshall: coded_index_size(counts, &[kinds::FIELD, kinds::PARAM], 32_768),
+        has_field_marshall: coded_index_size(counts, 1, &[kinds::FIELD, kinds::PARAM]),
         has_decl_security: coded_index_size(
             counts,
+            2,
             &[kinds::TYPE_DEF, kinds::METHOD_DEF, kinds::ASSEMBLY],
-            16_384,
         ),
         member_ref_parent: member_ref_parent_size(counts),
-        has_semantics: coded_index_size(counts, &[kinds::EVENT, kinds::PROPERTY], 32_768),
-        method_def_or_ref: coded_index_size(
-            counts,
-            &[kinds::MEMBER_REF, kinds::METHOD_DEF],
-            32_768,
-        ),
-        member_forwarded: coded_index_size(counts, &[kinds::FIELD, kinds::METHOD_DEF], 32_768),
+        has_semantics: coded_index_size(counts, 1, &[kinds::EVENT, kinds::PROPERTY]),
+        method_def_or_ref: coded_index_size(counts, 1, &[kinds::MEMBER_REF, kinds::METHOD_DEF]),
+        member_forwarded: coded_index_size(counts, 1, &[kinds::FIELD, kinds::METHOD_DEF]),
         implementation: coded_index_size(
             counts,
+            2,
             &[kinds::FILE, kinds::ASSEMBLY_REF, kinds::EXPORTED_TYPE],
-            16_384,
         ),
         custom_attribute_type: custom_attribute_type_size(counts),
         resolution_scope: coded_index_size(
             counts,
+            2,
             &[
                 kinds::MODULE,
                 kinds::MODULE_REF,
                 kinds::ASSEMBLY_REF,
                 kinds::TYPE_REF,
             ],
-            16_384,
         ),
-        type_or_method_def: coded_index_size(counts, &[kinds::TYPE_DEF, kinds::METHOD_DEF], 32_768),
+        type_or_method_def: coded_index_size(counts, 1, &[kinds::TYPE_DEF, kinds::METHOD_DEF]),
     }
 }
 
-fn wide(x: u8) -> u32
-    ensures { result ≡ x }
+// What the parts of a row take.
+fn sum(parts: &[u8]) -> u32
+    requires { length parts.now ≤ 6 }
+    ensures { result ≡ sum parts.now }
 {
-    x as u32
-}
-
-// What six parts of a row take.
-fn sum(a: u8, b: u8, c: u8, d: u8, e: u8, f: u8) -> u32
-    ensures { result ≡ a + (b + (c + (d + (e + f)))) }
-{
-    (a as u32) + (b as u32) + (c as u32) + (d as u32) + (e as u32) + (f as u32)
+    parts.iter().map(|part| u32::from(*part)).sum()
 }
 
 // The setting of the three coded indices that can have 4 bytes where no table has more than 15,000 rows: a bit for each that has.
@@ -217,5 +203,5 @@ pub fn coded_setting(counts: &[u32; 64], decl_security: bool) -> usize
     let attribute = has_custom_attribute_size(counts, decl_security) / 4;
     let parent = member_ref_parent_size(counts) / 4;
     let kind = custom_attribute_type_size(counts) / 4;
-    wide(attribute) as usize + 2 * wide(parent) as usize + 4 * wide(kind) as usize
+    usize::from(attribute) + 2 * usize::from(parent) + 4 * usize::from(kind)
 }

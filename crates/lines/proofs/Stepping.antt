@@ -5,10 +5,8 @@ use mathlib.Core.List.{List, []}
 use Prim.Native.Nat.{ℕ}
 use Rattle.buffers.specs.Texts.{Text, q}
 use Rattle.buffers.specs.Writes.{Wrote}
-use Rattle.buffers.specs.Replies.{number, Answer, reply_says}
+use Rattle.buffers.specs.Replies.{Reply, number, Answer, reply_says}
 use Rattle.buffers.specs.declared.Refusal.{Refusal}
-use Rattle.buffers.specs.declared.Reply.{Reply}
-use Rattle.buffers.specs.declared.Reply.TheVariants.{Is, No}
 use Rattle.header.specs.declared.Options.{Options}
 use Rattle.record.specs.View.{View, view_of, view}
 use Rattle.record.specs.Answers.{class_count, class_flags, class_packing, class_size, method_flags}
@@ -22,14 +20,15 @@ use Rattle.lines.specs.Cursors.{cursor, done, next_number, stop_line, after_stop
 use Rattle.lines.specs.declared.Place.TheVariants.{Stop, Classes, Class, Flags, Generic, Base, Method, MethodFlags, MethodGeneric, Returns, ParamType, ParamName, Done, Packing, Size}
 use Rattle.lines.specs.declared.Cursor.{Cursor}
 use Rattle.lines.specs.declared.Step.{Step}
+use Rattle.std.specs.Prelude.{Ok, Err}
 
 -- The first line.
 module _ {r : Reply} {o o' : List ℕ} {at : ℕ} where
-  pub stop-found : {n e : ℕ} {next : Cursor} → r ≡ Is n → next ≡ cursor Classes 0 0 0 → Wrote o at (number_line (q "stop=") n) o' e
+  pub stop-found : {n e : ℕ} {next : Cursor} → r ≡ Ok n → next ≡ cursor Classes 0 0 0 → Wrote o at (number_line (q "stop=") n) o' e
       → Went (stop_line (reply_says r)) (after_stop (reply_says r)) o at o' (record { next = next; at = e })
   stop-found f g w = rw f (record { wrote = w; goes = g })
 
-  pub stop-refused : {why : Refusal} {s : Step} → r ≡ No why → Went (refused_line (number why)) done o at o' s
+  pub stop-refused : {why : Refusal} {s : Step} → r ≡ Err why → Went (refused_line (number why)) done o at o' s
       → Went (stop_line (reply_says r)) (after_stop (reply_says r)) o at o' s
   stop-refused f w = rw f w
 

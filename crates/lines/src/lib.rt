@@ -21,14 +21,11 @@ const LINE_END: u8 = b'\n';
 // The bytes of the longest name that is shown. For a longer one there stands `!`.
 const LONGEST: usize = 4096;
 
-// The refusal that says so of a number that may be missing.
-const NO_SUCH_ROW: u8 = 4;
-
 // Room for a key, any name that is not too long, and eight bytes. Written as a value the name may need more.
 pub const LINE_ROOM: usize = 4120;
 
 // What the next line is about. Packing and size come behind the flags in a listing, and last here, as in the numbers that C programs use.
-#[derive(Clone, Copy)]
+#[derive(Clone, Copy, Debug, PartialEq, Eq)]
 pub enum Place {
     Stop,
     Classes,
@@ -91,10 +88,7 @@ pub fn done_cursor() -> Cursor
 pub fn next_number(n: u32) -> u32
     ensures { result ≡ next_number n }
 {
-    if n < 0xFFFF_FFFF {
-        return n + 1;
-    }
-    n
+    n.saturating_add(1)
 }
 
 pub fn next_class(class: ClassNumber) -> ClassNumber
@@ -107,10 +101,7 @@ pub fn next_class(class: ClassNumber) -> ClassNumber
 pub fn push_nothing(out: &mut [u8], at: usize) -> usize
     ensures { Wrote out.old at [] out.new result }
 {
-    if out.len() < at {
-        return out.len() + 1;
-    }
-    at
+    at.min(out.len() + 1)
 }
 
 // A key and a number.
@@ -158,14 +149,14 @@ fn end_reply(out: &mut [u8], at: usize, start: usize, reply: Reply, next: Cursor
         out.new result }
 {
     match reply {
-        Reply::Is(n) => {
+        Ok(n) => {
             let end = push_decimal(out, start, n);
             Step {
                 next,
                 at: put(out, end, LINE_END),
             }
         }
-        Reply::No(_) => Step {
+        Err(_) => Step {
             next,
             at: push_nothing(out, at),
         },
@@ -176,10 +167,7 @@ fn end_reply(out: &mut [u8], at: usize, start: usize, reply: Reply, next: Cursor
 fn is_missing(reply: Reply) -> bool
     ensures { result ≡ is_missing (reply_says reply) }
 {
-    match reply {
-        Reply::Is(_) => false,
-        Reply::No(why) => refusal_number(why) == NO_SUCH_ROW,
-    }
+    matches!(reply, Err(Refusal::NoSuchRow))
 }
 
 // The same where the number may be one that may be missing: where it is, its key stands alone.
@@ -194,13 +182,11 @@ pub fn end_number(
     ensures { (o : List ℕ) (key : Text) → Wrote o at key out.old start → Went (numbered_line optional key (reply_says reply)) next o at
         out.new result }
 {
-    if optional {
-        if is_missing(reply) {
-            return Step {
-                next,
-                at: end_missing(out, start),
-            };
-        }
+    if optional && is_missing(reply) {
+        return Step {
+            next,
+            at: end_missing(out, start),
+        };
     }
     end_reply(out, at, start, reply, next)
 }

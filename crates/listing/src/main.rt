@@ -4,18 +4,13 @@
 
 #![tactic(auto)]
 
-ghost use Rattle.std.specs.Prelude.{◌≡◌, true, List, ℕ, ◌≤◌, length};
+ghost use Rattle.std.specs.Prelude.{◌≡◌, List, ℕ, ◌≤◌, length};
 ghost use Rattle.record.specs.View.{view};
 ghost use Rattle.rows.specs.Columns as columns;
 ghost use Rattle.rows.specs.Layout.{Laid, view_in};
-ghost use Rattle.answers.specs.Known.{Knows};
-ghost use Rattle.charges.specs.Within.{AllFit};
 
-use answers::Known;
-use buffers::{Refusal, push};
-use bundle::Bundle;
-use header::{Opened, Options};
-use lines::Cursor;
+use buffers::Refusal;
+use header::Options;
 use rows::columns;
 use std::io;
 use std::io::Read;
@@ -24,9 +19,9 @@ use std::process::ExitCode;
 // Words for the layout, and for the rows by key of every input that the program takes, and bytes of a piece of the listing; and both for
 // one whose tables have at most so many bytes, which costs fewer zeros. A piece that is shorter than the longest line, 12,298 bytes, could
 // stay empty, and the listing would never end.
-const WORDS: usize = 24_000;
+const MOST_WORDS: usize = 24_000;
 
-const PIECE: usize = 65_536;
+const MOST_PIECE: usize = 65_536;
 
 const FEW_WORDS: usize = 3_100;
 
@@ -45,57 +40,17 @@ const INPUT: usize = 65_537;
 
 const SMALL_INPUT: usize = 8_192;
 
-// Where the listing goes on after a piece, what is known, and whether the piece was written.
-#[derive(Drop)]
-struct Written {
-    next: Cursor,
-    known: Known,
-    whole: bool,
-}
+// Bytes for the line of a refusal.
+const REFUSED: usize = 32;
 
 // Writes a refusal, which is the whole listing.
-fn write_refused(rt: &impl Print, why: Refusal) -> bool {
-    let mut space = [0u8; 32];
+fn write_refused(rt: &impl Print, why: Refusal) -> io::Result<()> {
+    let mut space = [0u8; REFUSED];
     let step = lines::push_refused(&mut space, 0, why);
-    rt.write_all(numbers::cut(&space, 0, step.at)).is_ok()
+    rt.write_all(numbers::cut(&space, 0, step.at))
 }
 
-// Writes one piece of the listing, as much as the buffer holds.
-fn write_piece(
-    rt: &impl Print,
-    tables: &[u8],
-    strings: &[u8],
-    blob: &[u8],
-    options: Options,
-    layout: &[u32],
-    all: bool,
-    from: Cursor,
-    known: Known,
-    space: &mut [u8],
-) -> Written
-    requires laid { Laid tables.now layout.now }
-    requires by_index { (s b : List ℕ) → view_in tables.now layout.now s b ≡ view options tables.now s b }
-    requires knows { Knows (view_in tables.now layout.now strings.now blob.now) blob.now known }
-    requires all_fit { all ≡ true → AllFit (view options tables.now strings.now blob.now) }
-    ensures { let v = view_in tables.now layout.now strings.now blob.now in
-        Knows v blob.now result.known }
-{
-    let on = listing_steps::fill_opened(
-        tables, strings, blob, options, layout, all, from, known, space,
-    );
-    let step = on.step;
-    let next = step.next;
-    let after = on.known;
-    let whole = rt.write_all(numbers::cut(space, 0, step.at)).is_ok();
-    Written {
-        next,
-        known: after,
-        whole,
-    }
-}
-
-// Every piece, and whether all were written; what is beyond the ceiling is looked for only where something can be. No listing has as many
-// as the loop has turns.
+// Every piece; what is beyond the ceiling is looked for only where something can be. No listing has as many as the loop has turns.
 fn write_pieces(
     rt: &impl Print,
     tables: &[u8],
@@ -104,48 +59,46 @@ fn write_pieces(
     options: Options,
     layout: &[u32],
     space: &mut [u8],
-) -> bool
+) -> io::Result<()>
     requires laid { Laid tables.now layout.now }
     requires by_index { (s b : List ℕ) → view_in tables.now layout.now s b ≡ view options tables.now s b }
 {
     let all = charges::all_within(tables, blob, layout);
     let mut cursor = lines::first_cursor();
     let mut known = answers::nothing_known();
-    let mut turns: u64 = 0xFFFF_FFFF_FFFF_FFFF;
-    while 0 < turns {
+    for _ in 0..u64::MAX {
         if listing_steps::is_done(cursor) {
-            return true;
+            return Ok(());
         }
-        let written = write_piece(
-            rt, tables, strings, blob, options, layout, all, cursor, known, space,
+        let on = listing_steps::fill_opened(
+            tables, strings, blob, options, layout, all, cursor, known, space,
         );
-        if !written.whole {
-            return false;
-        }
-        cursor = written.next;
-        known = written.known;
-        turns -= 1;
+        let step = on.step;
+        rt.write_all(numbers::cut(space, 0, step.at))?;
+        cursor = step.next;
+        known = on.known;
     }
-    false
+    Err(io::ErrorKind::Other.into())
 }
 
-// The same, with memories of rows by key in lent words.
-fn write_held(
+// The same, with memories of rows by key in so many words, and in pieces of so many bytes.
+fn write_held<const WORDS: usize, const PIECE: usize>(
     rt: &impl Print,
     tables: &[u8],
     strings: &[u8],
     blob: &[u8],
     options: Options,
     layout: &[u32],
-    work: &mut [u32],
-    space: &mut [u8],
-) -> bool
+) -> io::Result<()>
     requires laid { Laid tables.now layout.now }
     requires by_index { (s b : List ℕ) → view_in tables.now layout.now s b ≡ view options tables.now s b }
-    requires size_in_bounds { columns.size ≤ length work.old }
+    requires words { (columns.size ≤ WORDS) × (WORDS ≤ MOST_WORDS) }
+    requires piece { PIECE ≤ MOST_PIECE }
 {
-    holding::hold(work, tables, layout);
-    write_pieces(rt, tables, strings, blob, options, work, space)
+    let mut work = [0u32; WORDS];
+    let mut space = [0u8; PIECE];
+    holding::hold(&mut work, tables, layout);
+    write_pieces(rt, tables, strings, blob, options, &work, &mut space)
 }
 
 // The same, with as many words as serve the tables, and pieces to match.
@@ -156,69 +109,62 @@ fn write_opened(
     blob: &[u8],
     options: Options,
     layout: &[u32],
-) -> bool
+) -> io::Result<()>
     requires laid { Laid tables.now layout.now }
     requires by_index { (s b : List ℕ) → view_in tables.now layout.now s b ≡ view options tables.now s b }
 {
     if tables.len() <= LEAST_BYTES {
-        let mut least = [0u32; LEAST_WORDS];
-        let mut brief = [0u8; LEAST_PIECE];
-        return write_held(
-            rt, tables, strings, blob, options, layout, &mut least, &mut brief,
-        );
+        return write_held::<LEAST_WORDS, LEAST_PIECE>(rt, tables, strings, blob, options, layout);
     }
     if tables.len() <= FEW_BYTES {
-        let mut few = [0u32; FEW_WORDS];
-        let mut short = [0u8; FEW_PIECE];
-        return write_held(
-            rt, tables, strings, blob, options, layout, &mut few, &mut short,
-        );
+        return write_held::<FEW_WORDS, FEW_PIECE>(rt, tables, strings, blob, options, layout);
     }
-    let mut work = [0u32; WORDS];
-    let mut space = [0u8; PIECE];
-    write_held(
-        rt, tables, strings, blob, options, layout, &mut work, &mut space,
-    )
+    write_held::<MOST_WORDS, MOST_PIECE>(rt, tables, strings, blob, options, layout)
 }
 
 // The listing of three streams. The stream is opened once, and its columns are looked through once.
-fn write_streams(rt: &impl Print, tables: &[u8], strings: &[u8], blob: &[u8]) -> bool {
+fn write_streams(rt: &impl Print, tables: &[u8], strings: &[u8], blob: &[u8]) -> io::Result<()> {
     let options = header::base_options();
     let mut layout = [0u32; columns::SIZE];
     match opening::open(tables, options, &mut layout) {
-        Opened::Refused(why) => write_refused(rt, why),
-        Opened::Ready => {
+        Err(why) => write_refused(rt, why),
+        Ok(()) => {
             marks::mark_methods(tables, &mut layout);
             write_opened(rt, tables, strings, blob, options, &layout)
         }
     }
 }
 
-fn write_listing(rt: &impl Print, input: &[u8]) -> bool {
+fn write_listing(rt: &impl Print, input: &[u8]) -> io::Result<()> {
     match bundle::open_bundle(input) {
-        Bundle::Streams(t, s, b) => {
-            let tables = numbers::cut(input, t.at, t.len);
-            let strings = numbers::cut(input, s.at, s.len);
-            let blob = numbers::cut(input, b.at, b.len);
+        Some(b) => {
+            let tables = numbers::cut(input, b.tables.at, b.tables.len);
+            let strings = numbers::cut(input, b.strings.at, b.strings.len);
+            let blob = numbers::cut(input, b.blob.at, b.blob.len);
             write_streams(rt, tables, strings, blob)
         }
-        Bundle::Malformed => write_refused(rt, Refusal::BadInput),
+        None => write_refused(rt, Refusal::BadInput),
     }
+}
+
+// Puts what was read to the front of a buffer and reads on behind it, and answers how many bytes there are.
+fn read_on(input: &mut impl Read, begun: &[u8], space: &mut [u8]) -> usize
+    requires { length begun.now ≤ length space.old }
+{
+    let (front, behind) = space.split_at_mut(begun.len());
+    front.copy_from_slice(begun);
+    begun.len() + intake::read_full(input, behind)
 }
 
 // The listing of an input that begins with what was read, and goes on.
-fn write_long(rt: &impl Print, input: &mut impl Read, begun: &[u8]) -> bool {
+fn write_long(rt: &impl Print, input: &mut impl Read, begun: &[u8; SMALL_INPUT]) -> io::Result<()> {
     let mut space = [0u8; INPUT];
-    let at = push(&mut space, 0, begun);
-    if INPUT < at {
-        return write_refused(rt, Refusal::BadInput);
-    }
-    let n = intake::read_full(input, &mut space[at..]);
-    write_listing(rt, numbers::cut(&space, 0, at + n))
+    let n = read_on(input, begun, &mut space);
+    write_listing(rt, numbers::cut(&space, 0, n))
 }
 
 // The listing of standard input.
-fn write_input(rt: &(impl Print + Input)) -> bool {
+fn write_input(rt: &(impl Print + Input)) -> io::Result<()> {
     let mut input = rt.reader();
     let mut small = [0u8; SMALL_INPUT];
     let n = intake::read_full(&mut input, &mut small);
@@ -229,7 +175,7 @@ fn write_input(rt: &(impl Print + Input)) -> bool {
 }
 
 fn main(rt: HostRuntime) -> io::Result<ExitCode> {
-    if write_input(&rt) {
+    if write_input(&rt).is_ok() {
         return Ok(ExitCode::SUCCESS);
     }
     eprintln!(rt; "listing: cannot write to standard output")?;

@@ -12,13 +12,12 @@ use Rattle.numbers.specs.Parts.{part}
 use Rattle.buffers.specs.Texts.{Text}
 use Rattle.buffers.specs.Writes.{Wrote}
 use Rattle.buffers.proofs.Writing.{wrote_none, wrote_then, kept-wrote}
-use Rattle.buffers.specs.Replies.{number, Named, held}
-use Rattle.buffers.specs.declared.Reply.{Reply}
+use Rattle.buffers.specs.Replies.{Reply, number, Named, held}
 use Rattle.buffers.proofs.Replies.{wrote-take, named-text}
 use Rattle.buffers.specs.declared.Refusal.TheVariants.{BadInput}
 use Rattle.bundle.specs.Input.{bundle_of}
-use Rattle.bundle.specs.declared.Part.{Part}
-use Rattle.bundle.specs.declared.Bundle.TheVariants.{Streams, Malformed}
+use Rattle.bundle.specs.declared.Bundle.{Bundle}
+use Rattle.std.specs.Prelude.{Some, None}
 use Rattle.header.specs.Stream.{base}
 use Rattle.header.specs.declared.Options.{Options}
 use Rattle.record.specs.View.{View, view}
@@ -200,12 +199,12 @@ module _ (v : View) (room : ℕ) where
 
 -- A program's whole input.
 module _ (s : List ℕ) (room : ℕ) (from : Cursor) {b b' : List ℕ} {r : Step} where
-  pub input-malformed : Malformed ≡ bundle_of s → Went (refused_line (number BadInput)) done b 0 b' r → Pieced (input_piece s room from) b b' r
+  pub input-malformed : None ≡ bundle_of s → Went (refused_line (number BadInput)) done b 0 b' r → Pieced (input_piece s room from) b b' r
   unfolding input_piece
   input-malformed e w = rw (← e) (record { wrote = w.wrote; goes = w.goes })
 
-  pub input-streams : {t n h : Part} {tables strings blob : List ℕ} {o : Options} → Streams t n h ≡ bundle_of s
-      → tables ≡ part s t.at t.len → strings ≡ part s n.at n.len → blob ≡ part s h.at h.len → o ≡ base
+  pub input-streams : {i : Bundle} {tables strings blob : List ℕ} {o : Options} → Some i ≡ bundle_of s
+      → tables ≡ part s i.tables.at i.tables.len → strings ≡ part s i.strings.at i.strings.len → blob ≡ part s i.blob.at i.blob.len → o ≡ base
       → Filled (piece_of (view o tables strings blob) room from) b b' r → Filled (input_piece s room from) b b' r
   unfolding input_piece
   input-streams e f g k q w = rw (← e, ← f, ← g, ← k, ← q) w

@@ -35,7 +35,7 @@ pub const MOST_STEPS: u32 = 65_536;
 const LONGEST_LINE: usize = 12_298;
 
 // A line that has begun, behind its key: the question whose answer it shows, whether that number may be missing, and where it goes on.
-#[derive(Drop)]
+#[derive(Clone, Copy)]
 pub enum Line {
     Stop,
     Number {
@@ -55,7 +55,7 @@ pub enum Line {
 
 // How far some steps went, what is known after them, whether the line there is known to be within the ceiling, and how many steps are left:
 // none where the piece has its last line.
-#[derive(Drop)]
+#[derive(Clone, Copy)]
 pub struct Reached {
     pub step: Step,
     pub known: Known,
@@ -67,8 +67,7 @@ pub struct Reached {
 pub fn is_done(c: Cursor) -> bool
     ensures { result ≡ is_done c.place }
 {
-    let place = c.place;
-    if let Place::Done = place { true } else { false }
+    matches!(c.place, Place::Done)
 }
 
 fn done_line(out: &mut [u8], at: usize) -> Step
@@ -86,14 +85,14 @@ fn stop_step(out: &mut [u8], at: usize, reply: Reply) -> Step
     ensures { Went (stop_line (reply_says reply)) (after_stop (reply_says reply)) out.old at out.new result }
 {
     match reply {
-        Reply::Is(stop) => {
+        Ok(stop) => {
             let end = lines::push_number(out, at, b"stop=", stop);
             Step {
                 next: cursor_at(Place::Classes, ClassNumber(0), 0, 0),
                 at: end,
             }
         }
-        Reply::No(why) => lines::push_refused(out, at, why),
+        Err(why) => lines::push_refused(out, at, why),
     }
 }
 
@@ -110,18 +109,19 @@ fn stop_line(
         ((c m i : ℕ) → Stepped v (cursor Stop c m i) out.old at out.new result) }
 {
     let walk = walks::walk_with(tables, options);
-    let answer = walk.answer;
-    stop_step(out, at, answer)
+    stop_step(out, at, walk.answer)
 }
 
 // Begin the line at a cursor: its key is written. Each place is a row of this table: its key, its question, and where it goes on.
 fn begin_line(out: &mut [u8], at: usize, c: Cursor) -> Line
     ensures { (v : View) → Begun v c out.old at out.new result }
 {
-    let place = c.place;
-    let class = c.class;
-    let m = c.method;
-    let i = c.i;
+    let Cursor {
+        place,
+        class,
+        method: m,
+        i,
+    } = c;
     match place {
         Place::Stop => Line::Stop,
         Place::Classes => Line::Number {
@@ -210,8 +210,7 @@ fn begin_line(out: &mut [u8], at: usize, c: Cursor) -> Line
 fn counts_anew(c: Cursor) -> bool
     ensures { result ≡ counts_anew c.place c.i }
 {
-    let place = c.place;
-    match place {
+    match c.place {
         Place::Base => c.i == 0,
         Place::Returns => true,
         _ => false,
@@ -225,14 +224,11 @@ fn is_over(tables: &[u8], strings: &[u8], blob: &[u8], layout: &[u32], c: Cursor
     ensures { let v = view_in tables.now layout.now strings.now blob.now in
         result ≡ is_over_at v c }
 {
-    let place = c.place;
-    let class = c.class;
-    let m = c.method;
-    match place {
-        Place::Base => charges::bases_over(tables, strings, blob, layout, class),
-        Place::Returns => charges::method_over(tables, strings, blob, layout, class, m, own),
-        Place::ParamType => charges::method_over(tables, strings, blob, layout, class, m, own),
-        Place::ParamName => charges::method_over(tables, strings, blob, layout, class, m, own),
+    match c.place {
+        Place::Base => charges::bases_over(tables, strings, blob, layout, c.class),
+        Place::Returns | Place::ParamType | Place::ParamName => {
+            charges::method_over(tables, strings, blob, layout, c.class, c.method, own)
+        }
         _ => false,
     }
 }
@@ -257,8 +253,7 @@ fn next_method(c: Cursor) -> Cursor
 fn spent_line(out: &mut [u8], at: usize, c: Cursor) -> Step
     ensures { (v : View) → is_over_at v c ≡ true → Stepped v c out.old at out.new result }
 {
-    let place = c.place;
-    match place {
+    match c.place {
         Place::Base => {
             let next = cursor_at(Place::Method, c.class, 0, 0);
             if c.i == 0 {
@@ -354,26 +349,26 @@ fn fill_lines(
         Advances v from out.old out.new result × Knows
         (view_in tables.now layout.now strings.now blob.now) blob.now result.known }
 {
-    let begun = from.step;
-    let first = begun.next;
-    let mut place = first.place;
-    let mut class = first.class;
-    let mut method = first.method;
-    let mut item = first.i;
-    let mut k = from.known;
-    let mut at = begun.at;
+    let Cursor {
+        mut place,
+        mut class,
+        mut method,
+        mut i,
+    } = from.step.next;
+    let mut at = from.step.at;
+    let mut known = from.known;
     let mut left = from.left;
     while 0 < left {
         let c = Cursor {
             place,
             class,
             method,
-            i: item,
+            i,
         };
         if is_done(c) {
             return Reached {
                 step: Step { next: c, at },
-                known: k,
+                known,
                 within: true,
                 left: 0,
             };
@@ -381,50 +376,46 @@ fn fill_lines(
         if out.len() - at < LINE_ROOM {
             return Reached {
                 step: Step { next: c, at },
-                known: k,
+                known,
                 within: true,
                 left,
             };
         }
-        let on = next_line(tables, strings, blob, options, layout, c, k, out, at);
+        let on = next_line(tables, strings, blob, options, layout, c, known, out, at);
         let step = on.step;
-        let end = step.at;
-        k = on.known;
-        if out.len() < end {
+        known = on.known;
+        if out.len() < step.at {
             return Reached {
                 step: Step { next: c, at },
-                known: k,
+                known,
                 within: true,
                 left: 0,
             };
         }
         left -= 1;
-        let next = step.next;
-        if !all {
-            if counts_anew(next) {
-                return Reached {
-                    step,
-                    known: k,
-                    within: false,
-                    left,
-                };
-            }
+        if !all && counts_anew(step.next) {
+            return Reached {
+                step,
+                known,
+                within: false,
+                left,
+            };
         }
-        place = next.place;
-        class = next.class;
-        method = next.method;
-        item = next.i;
-        at = end;
+        place = step.next.place;
+        class = step.next.class;
+        method = step.next.method;
+        i = step.next.i;
+        at = step.at;
     }
     let last = Cursor {
         place,
         class,
         method,
-        i: item,
+        i,
     };
     Reached {
         step: Step { next: last, at },
-        known: k,
+        known,
         within: true,
         left,
     }
@@ -453,28 +444,23 @@ fn fill_some(
         Advances v from out.old out.new result × Knows
         (view_in tables.now layout.now strings.now blob.now) blob.now result.known }
 {
-    if !from.within {
-        let step = from.step;
-        let c = step.next;
-        let known = from.known;
-        let own = known.own;
-        if is_over(tables, strings, blob, layout, c, own) {
-            let spent = spent_line(out, step.at, c);
-            if out.len() < spent.at {
-                return Reached {
-                    step,
-                    known,
-                    within: false,
-                    left: 0,
-                };
-            }
+    let Reached { step, known, .. } = from;
+    if !from.within && is_over(tables, strings, blob, layout, step.next, known.own) {
+        let spent = spent_line(out, step.at, step.next);
+        if out.len() < spent.at {
             return Reached {
-                step: spent,
+                step,
                 known,
                 within: false,
-                left: from.left - 1,
+                left: 0,
             };
         }
+        return Reached {
+            step: spent,
+            known,
+            within: false,
+            left: from.left - 1,
+        };
     }
     fill_lines(tables, strings, blob, options, layout, all, from, out)
 }
@@ -505,11 +491,7 @@ fn fill_roomy(
         within: all,
         left: MOST_STEPS,
     };
-    while 0 < r.left {
-        let step = r.step;
-        if out.len() - step.at < LINE_ROOM {
-            return r;
-        }
+    while 0 < r.left && LINE_ROOM <= out.len() - r.step.at {
         r = fill_some(tables, strings, blob, options, layout, all, r, out);
     }
     r
@@ -537,45 +519,35 @@ fn fill_rest(
         (view_in tables.now layout.now strings.now blob.now) blob.now result.known }
 {
     let mut space = [0u8; LONGEST_LINE];
-    let step = from.step;
-    let mut c = step.next;
-    let mut at = step.at;
-    let mut k = from.known;
+    let mut c = from.step.next;
+    let mut at = from.step.at;
+    let mut known = from.known;
     let mut within = from.within;
-    let mut left = from.left;
-    while 0 < left {
+    for _ in 0..from.left {
         if is_done(c) {
-            return Onward {
-                step: Step { next: c, at },
-                known: k,
-            };
+            break;
         }
         let begun = Reached {
             step: Step { next: c, at: 0 },
-            known: k,
+            known,
             within,
             left: 1,
         };
         let one = fill_some(
             tables, strings, blob, options, layout, all, begun, &mut space,
         );
-        let made = one.step;
-        let after = push(out, at, numbers::cut(&space, 0, made.at));
+        let after = push(out, at, numbers::cut(&space, 0, one.step.at));
         if out.len() < after {
-            return Onward {
-                step: Step { next: c, at },
-                known: k,
-            };
+            break;
         }
-        c = made.next;
-        k = one.known;
+        c = one.step.next;
+        known = one.known;
         within = one.within;
         at = after;
-        left -= 1;
     }
     Onward {
         step: Step { next: c, at },
-        known: k,
+        known,
     }
 }
 
@@ -604,9 +576,10 @@ pub fn fill_opened(
         tables, strings, blob, options, layout, all, from, known, out,
     );
     if reached.left == 0 {
-        let step = reached.step;
-        let after = reached.known;
-        return Onward { step, known: after };
+        return Onward {
+            step: reached.step,
+            known: reached.known,
+        };
     }
     fill_rest(tables, strings, blob, options, layout, all, reached, out)
 }

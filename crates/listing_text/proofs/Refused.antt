@@ -15,9 +15,8 @@ use Rattle.buffers.specs.declared.Refusal.{Refusal}
 use Rattle.buffers.specs.declared.Refusal.TheVariants.{ShortHeader, ShortCounts, TooManyRows}
 use Rattle.buffers.proofs.Writing.{wrote_none}
 use Rattle.header.specs.Stream.{opened, counts_end, over_limit, refused_header}
-use Rattle.header.specs.declared.Header.{Header}
+use Rattle.header.specs.Stream.{Opening}
 use Rattle.header.specs.declared.Options.{Options}
-use Rattle.header.specs.declared.Opened.TheVariants.{Refused, Ready}
 use Rattle.tables.specs.Extents.{walk_by}
 use Rattle.record.specs.View.{View, view, view_of}
 use Rattle.record.specs.Answers.{walk_answer, NumberCall, ClassCount, ClassFlags, ClassPacking, ClassSize, MethodFlags, number_answer, NameCall, ClassName, GenericName, BaseName, MethodName, MethodGenericName, ReturnType, ParameterType, ParameterName, ModuleName, ModuleRefName, AssemblyName, AssemblyCulture, AssemblyRefName, AssemblyRefKey, ConstantValue, Typelib, name_answer}
@@ -34,17 +33,18 @@ use Rattle.lines.proofs.Ceiling.{listed-within}
 use Rattle.lines.specs.contracts.Place.{the_type}
 use Rattle.listing_steps.specs.Filling.{is_done, Piece, piece_from, piece_of, most_steps, Pieced}
 use Rattle.listing_steps.proofs.Filling.{is-done, goes_on as goes-further, going_start, going-out, going_done, going-full, going_on}
+use Rattle.std.specs.Prelude.{Ok, Err}
 
 -- Opening refuses by 1, 2 or 3.
-by_tests : (short cut over : Bool) (h : Header) {why : Refusal} → h.answer ≡ Ready
-    → (cond short (refused_header ShortHeader) (cond cut (refused_header ShortCounts) (cond over (refused_header TooManyRows) h))).answer ≡ Refused why
+by_tests : (short cut over : Bool) (h : Opening) {why : Refusal} → h.answer ≡ (Ok tt)
+    → (cond short (refused_header ShortHeader) (cond cut (refused_header ShortCounts) (cond over (refused_header TooManyRows) h))).answer ≡ Err why
     → number why ≤ 3
 by_tests true cut over h {why} r e = let is : why ≡ ShortHeader = cc in rw is (omega arith)
 by_tests false true over h {why} r e = let is : why ≡ ShortCounts = cc in rw is (omega arith)
 by_tests false false true h {why} r e = let is : why ≡ TooManyRows = cc in rw is (omega arith)
 by_tests false false false h {why} r e = let z : ◌≡◌ {A = ℕ} 0 1 = cc in absurd (omega arith)
 
-few : (o : Options) (t : List ℕ) {why : Refusal} → (opened o t).answer ≡ Refused why → number why ≤ 3
+few : (o : Options) (t : List ℕ) {why : Refusal} → (opened o t).answer ≡ Err why → number why ≤ 3
 unfolding opened
 few o t e = by_tests (ltb (length t) 24) (ltb (length t) (counts_end t)) (over_limit o.limit t 64) _ refl e
 
@@ -56,7 +56,7 @@ others = 1 ∷ 2 ∷ 3 ∷ 4 ∷ 5 ∷ 6 ∷ 7 ∷ 8 ∷ 9 ∷ 10 ∷ 11 ∷ 13 
 abbrev nothing : Piece
 nothing = record { text = []; next = done }
 
-module _ (o : Options) (t strings blob : List ℕ) {why : Refusal} (e : (opened o t).answer ≡ Refused why) where
+module _ (o : Options) (t strings blob : List ℕ) {why : Refusal} (e : (opened o t).answer ≡ Err why) where
   abbrev v : View
   v = view o t strings blob
 

@@ -3,31 +3,27 @@
 
 #![tactic(auto)]
 
-ghost use Rattle.std.specs.Prelude.{◌≡◌, List, ℕ, length, replicate};
+ghost use Rattle.std.specs.Prelude.{◌≡◌, List, ℕ, length, replicate, Err};
 ghost use Rattle.header.specs.Stream.{opened};
 ghost use Rattle.header.specs.declared.Options.{Options as Opts};
-ghost use Rattle.header.specs.declared.Opened.TheVariants.{Refused};
 ghost use Rattle.record.specs.View.{view};
 ghost use Rattle.rows.specs.Layout.{Laid, view_in};
 ghost use Rattle.listing_steps.specs.Filling.{piece_of, Piece, input_piece, Pieced, Filled};
 
 use buffers::Refusal;
-use bundle::Bundle;
 use header::{Opened, Options};
 use lines::{Cursor, Place, Step};
 use rows::columns;
 
 // A stream that is refused has one line, at the first place.
 fn fill_refused(why: Refusal, from: Cursor, out: &mut [u8]) -> Step
-    ensures { (options : Opts) (tables strings blob : List ℕ) → (opened options tables).answer ≡ Refused why → Pieced
+    ensures { (options : Opts) (tables strings blob : List ℕ) → (opened options tables).answer ≡ Err why → Pieced
         (piece_of (view options tables strings blob) (length out.old) from) out.old out.new result }
 {
-    let place = from.place;
-    match place {
+    match from.place {
         Place::Stop => {
             let s = lines::push_refused(out, 0, why);
-            let end = s.at;
-            if end <= out.len() {
+            if s.at <= out.len() {
                 return s;
             }
             Step { next: from, at: 0 }
@@ -44,8 +40,7 @@ fn fill_refused(why: Refusal, from: Cursor, out: &mut [u8]) -> Step
 fn end_piece(s: Step, out: &mut [u8]) -> Step
     ensures { (p : Piece) (b : List ℕ) → Pieced p b out.old s → Filled p b out.new result }
 {
-    let at = s.at;
-    buffers::finish(out, at);
+    let _ = buffers::finish(out, s.at);
     s
 }
 
@@ -97,12 +92,12 @@ pub fn fill(
 {
     let mut layout = [0u32; columns::SIZE];
     match opening::open(tables, options, &mut layout) {
-        Opened::Refused(why) => {
+        Err(why) => {
             numbers::clear_words(work);
             let s = fill_refused(why, from, out);
             end_piece(s, out)
         }
-        Opened::Ready => {
+        Ok(()) => {
             marks::mark_methods(tables, &mut layout);
             let s = fill_held(tables, strings, blob, options, &layout, from, work, out);
             numbers::clear_words(work);
@@ -116,25 +111,21 @@ pub fn fill_input(input: &[u8], from: Cursor, work: &mut [u32], out: &mut [u8]) 
     ensures { Filled (input_piece input.now (length out.old) from) out.old out.new result ×
         (work.new ≡ replicate (length work.old) 0) }
 {
-    match bundle::open_bundle(input) {
-        Bundle::Streams(t, s, b) => {
-            let tables = numbers::cut(input, t.at, t.len);
-            let strings = numbers::cut(input, s.at, s.len);
-            let blob = numbers::cut(input, b.at, b.len);
-            fill(
-                tables,
-                strings,
-                blob,
-                header::base_options(),
-                from,
-                work,
-                out,
-            )
-        }
-        Bundle::Malformed => {
-            numbers::clear_words(work);
-            let s = lines::push_refused(out, 0, Refusal::BadInput);
-            end_piece(s, out)
-        }
-    }
+    let Some(parts) = bundle::open_bundle(input) else {
+        numbers::clear_words(work);
+        let s = lines::push_refused(out, 0, Refusal::BadInput);
+        return end_piece(s, out);
+    };
+    let tables = numbers::cut(input, parts.tables.at, parts.tables.len);
+    let strings = numbers::cut(input, parts.strings.at, parts.strings.len);
+    let blob = numbers::cut(input, parts.blob.at, parts.blob.len);
+    fill(
+        tables,
+        strings,
+        blob,
+        header::base_options(),
+        from,
+        work,
+        out,
+    )
 }

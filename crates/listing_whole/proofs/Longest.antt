@@ -17,10 +17,8 @@ use Rattle.buffers.specs.Replies.{number, Answer, refused, value}
 use Rattle.buffers.specs.declared.Reason.TheVariants.{Untold}
 use Rattle.buffers.specs.declared.Refusal.{Refusal}
 use Rattle.buffers.specs.declared.Refusal.TheVariants.{ShortHeader, ShortCounts, TooManyRows, NoSuchRow, NoName, BufferTooSmall, NotFound, BadInput, BadRoot, NoTables, TooManySteps, Disorder, NestedTwice, StoppedEarly}
-use Rattle.header.specs.Stream.{base, opened}
-use Rattle.header.specs.declared.Header.{Header}
-use Rattle.header.specs.declared.Opened.{Opened}
-use Rattle.header.specs.declared.Opened.TheVariants.{Refused, Ready}
+use Rattle.header.specs.Stream.{Opened, base, opened}
+use Rattle.header.specs.Stream.{Opening}
 use Rattle.layouts.specs.declared.IndexSizes.{IndexSizes}
 use Rattle.layouts.specs.Kinds.{type_def, method_def, class_layout}
 use Rattle.layouts.specs.Columns.{Two, columns_of, tables, width_in}
@@ -41,6 +39,7 @@ use Rattle.lines.specs.declared.Place.{Place}
 use Rattle.lines.specs.declared.Place.TheVariants as at
 use Rattle.listing_whole.specs.Whole.{Bytes, longest_line, LinesFit}
 use Rattle.listing_whole.proofs.Few.{tabulated, few-in}
+use Rattle.std.specs.Prelude.{Ok, Err}
 
 -- ---- A line by its value
 
@@ -109,10 +108,10 @@ module _ (size : ℕ → ℕ) (counts : List ℕ) (n first : ℕ) where
   unfolding stop_kind
   stop-narrow = omega (arith, stop-from 64 0)
 
-stop-fits : (a : Opened) (w : IndexSizes) (h : Header) (n : ℕ) → Fits (stop_line (answered a w h n).stop)
+stop-fits : (a : Opened) (w : IndexSizes) (h : Opening) (n : ℕ) → Fits (stop_line (answered a w h n).stop)
 unfolding walked
-stop-fits (Refused why) w h n = number_fits (q "refused=") (omega arith) (number why) (refusal-narrow why)
-stop-fits Ready w h n = number_fits (q "stop=") (omega arith) _ (stop-narrow _ _ _ _)
+stop-fits (Err why) w h n = number_fits (q "refused=") (omega arith) (number why) (refusal-narrow why)
+stop-fits (Ok tt) w h n = number_fits (q "stop=") (omega arith) _ (stop-narrow _ _ _ _)
 
 -- ---- The answer of a call, if it has a value
 

@@ -14,7 +14,7 @@ use Rattle.buffers.specs.Replies.{number, Refused, refusal_says, Answer, refused
 use Rattle.buffers.specs.declared.Refusal.TheVariants.{BadInput}
 use Rattle.bundle.specs.Input.{Inputs, bundle_of, bundle_says}
 use Rattle.bundle.specs.declared.Bundle.{Bundle}
-use Rattle.bundle.specs.declared.Bundle.TheVariants.{Streams, Malformed}
+use Rattle.std.specs.Prelude.{Option, Some, None}
 use Rattle.header.specs.Stream.{base}
 use Rattle.record.specs.View.{View, view}
 use Rattle.record.specs.Answers.{◌⟫◌}
@@ -222,18 +222,18 @@ fits-over i room bytes h = by_end (is_done (last (piece_of (view_in i) room)).pl
     by_end false e =
         absurd (omega (arith, rests-last i room e, lines_fit i.tables i.strings i.blob (last (piece_of (view_in i) room)) bytes))
 
-over_by : (s : List ℕ) (b : Bundle) (room : ℕ) → Bytes s → longest_line ≤ room → is_done (last (answer_piece (bundle_says s b) room)).place ≡ true
-over_by s Malformed room bytes h = refused_over (refusal_says BadInput) room
-over_by s (Streams t n b) room bytes h = fits-over _ room (bytes-part s t.at t.len bytes) h
+over_by : (s : List ℕ) (b : Option Bundle) (room : ℕ) → Bytes s → longest_line ≤ room → is_done (last (answer_piece (bundle_says s b) room)).place ≡ true
+over_by s None room bytes h = refused_over (refusal_says BadInput) room
+over_by s (Some b) room bytes h = fits-over _ room (bytes-part s b.tables.at b.tables.len bytes) h
 
 stays_by : (a : Answer Inputs) (room : ℕ) → let piece = answer_piece a room in is_done (last piece).place ≡ false → Stays piece (last piece)
 stays_by (refused w) room e = let f = refused_over w room in let z : ◌≡◌ {A = ℕ} 0 1 = cc in absurd (omega arith)
 stays_by (value i) room e = long-line-stays (view_in i) room (last (piece_of (view_in i) room)) (rests-last i room e)
 
-held_by : (s : List ℕ) (b : Bundle) (room : ℕ) (c : Cursor) → length (refused_line (number BadInput)) ≤ room
+held_by : (s : List ℕ) (b : Option Bundle) (room : ℕ) (c : Cursor) → length (refused_line (number BadInput)) ≤ room
     → length (answer_piece (bundle_says s b) room c).text ≤ room
-held_by s Malformed room c h = h
-held_by s (Streams t n b) room c h = piece-fits _ room c
+held_by s None room c h = h
+held_by s (Some b) room c h = piece-fits _ room c
 
 -- What is begun and done is all there.
 ended : {whole : Text} {p : Piece} → Begun whole p → is_done p.next.place ≡ true → Ended whole p

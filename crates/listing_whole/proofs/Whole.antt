@@ -12,8 +12,6 @@ use Rattle.buffers.specs.Replies.{Answer, refused, refused_by, value, name_or_5}
 use Rattle.buffers.specs.declared.Refusal.{Refusal}
 use Rattle.buffers.specs.declared.Refusal.TheVariants.{NoSuchRow, TooManySteps}
 use Rattle.heaps.specs.Lookups.{Name, found, missing, text_of, name_or_why}
-use Rattle.header.specs.declared.Opened.{Opened}
-use Rattle.header.specs.declared.Opened.TheVariants.{Refused, Ready}
 use Rattle.tables.specs.Extents.{walk_by}
 use Rattle.record.specs.Missing.{over}
 use Rattle.record.specs.View.{ClassLayout, View}
@@ -27,6 +25,8 @@ use Rattle.lines.specs.Cursors.{cursor, first, done, next_number, stop_line, aft
 use Rattle.lines.specs.declared.Place.TheVariants.{Class as AtClass, Generic, Base, Method as AtMethod, MethodGeneric, Returns, ParamType}
 use Rattle.lines.specs.declared.Cursor.{Cursor}
 use Rattle.lines.proofs.Ceiling.{listed-within, listed-beyond}
+use Rattle.std.specs.Prelude.{Ok, Err}
+use Rattle.header.specs.Stream.{Opened}
 
 -- Nothing that the record counts has more items than a table has rows, and one more for the type that a class extends. (Few.antt shows
 -- it.) So the listing has an end that can be counted to, and no number of a cursor comes near its 32 bits.
@@ -392,7 +392,7 @@ module _ (v : View) (few : FewIn v) where
   unfolding line_at next_at
   refused-steps w e = single (ap stop_line e) (ap after_stop e)
 
-  stop-refused : {why : Refusal} → v.header.answer ≡ Refused why → (walk_answer v).stop ≡ refused_by why
+  stop-refused : {why : Refusal} → v.header.answer ≡ Err why → (walk_answer v).stop ≡ refused_by why
   unfolding walk_by
   stop-refused e = rw e
 
@@ -401,11 +401,11 @@ module _ (v : View) (few : FewIn v) where
 
   by-opening : (a : Opened) → v.header.answer ≡ a → (s : Answer ℕ) → (walk_answer v).stop ≡ s → Listed (listing v)
   by-opening a e (refused w) f = subst Listed (sym (listing-refused w f)) (fewer (omega arith) (refused-steps w f))
-  by-opening (Refused why) e (value stop) f =
+  by-opening (Err why) e (value stop) f =
       let g : refused_by why ≡ value stop = sym (stop-refused e) ∙ f in
       let z : ◌≡◌ {A = ℕ} 0 1 = cc in
       absurd (omega arith)
-  by-opening Ready e (value stop) f =
+  by-opening (Ok tt) e (value stop) f =
       let ready : the_classes v ≡ value (class_record v) = rw e in
       subst Listed (sym (listing-found ready stop f)) (record-steps ready stop f)
 

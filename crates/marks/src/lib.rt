@@ -18,14 +18,12 @@ fn ascends(tables: &[u8], layout: &[u32], column: usize) -> bool
 {
     let n = rows::count_rows(layout, column);
     let mut last = 0;
-    let mut i = 0;
-    while i < n {
+    for i in 0..n {
         let here = rows::read_column(tables, layout, column, i);
         if here < last {
             return false;
         }
         last = here;
-        i += 1;
     }
     true
 }

@@ -9,9 +9,8 @@ use Rattle.record.specs.Methods.{left_after, steps_in}
 use Rattle.record.specs.Record.{Method}
 use Rattle.record.specs.Answers.{◌⟫◌, the_method}
 use Rattle.record.specs.Allowance.{count_of, method_work}
-use Rattle.steps.specs.Counting.{Takes, left}
-use Rattle.steps.specs.declared.Steps.{Steps}
-use Rattle.steps.specs.declared.Steps.TheVariants.{Left}
+use Rattle.steps.specs.Counting.{Steps, Takes, left}
+use Rattle.std.specs.Prelude.{Some}
 
 module _ (v : View) (c m : ℕ) where
   pub method-counts : {i : ℕ} {k : Method} → the_method v c m ≡ value k → i ≡ left_after v c + m → count_of (method_work v c m) ≡ steps_in v c i
@@ -27,5 +26,5 @@ module _ (v : View) (c m : ℕ) where
       → Takes (steps_in v c i) steps r → Takes (count_of (method_work v c m)) steps r
   method-takes is at {steps} {r} takes = subst (λ (n : ℕ). Takes n steps r) (sym (method-counts is at)) takes
 
-  pub no-method-takes : the_method v c m ≡ refused_by NoSuchRow → (steps : ℕ) → Takes (count_of (method_work v c m)) steps (Left steps)
+  pub no-method-takes : the_method v c m ≡ refused_by NoSuchRow → (steps : ℕ) → Takes (count_of (method_work v c m)) steps (Some steps)
   no-method-takes is steps = left {rest = steps} (omega (arith, no-method-counts is))

@@ -22,8 +22,7 @@ pub fn method_count(
     ensures { Numbered (method_count (view options tables.now strings.now blob.now) class.0) result }
 {
     let count = NumberQuestion::MethodCount(class);
-    let asked = asks::ask_number(tables, strings, blob, options, 0, count);
-    asked.reply
+    asks::ask_number(tables, strings, blob, options, 0, count).reply
 }
 
 // The flags of method m of a class (II.23.1.10).
@@ -39,8 +38,7 @@ pub fn method_flags(
         Numbered (method_flags v class.0 m) result }
 {
     let flags = NumberQuestion::MethodFlags(class, m);
-    let asked = asks::ask_number(tables, strings, blob, options, 0, flags);
-    asked.reply
+    asks::ask_number(tables, strings, blob, options, 0, flags).reply
 }
 
 // The name of method m of a class.
@@ -57,6 +55,5 @@ pub fn method_name(
         Named (method_name v class.0 m) buf.old result buf.new }
 {
     let name = NameQuestion::MethodName(class, m);
-    let asked = asks::ask_name(tables, strings, blob, options, 0, name, buf);
-    asked.reply
+    asks::ask_name(tables, strings, blob, options, 0, name, buf).reply
 }

@@ -24,8 +24,7 @@ pub fn method_generic_count(
         Numbered (method_generic_count v class.0 m) result }
 {
     let count = NumberQuestion::MethodGenericCount(class, m);
-    let asked = asks::ask_number(tables, strings, blob, options, 0, count);
-    asked.reply
+    asks::ask_number(tables, strings, blob, options, 0, count).reply
 }
 
 // The name of generic parameter g of method m of a class.
@@ -43,6 +42,5 @@ pub fn method_generic_name(
         Named (method_generic_name v class.0 m g) buf.old result buf.new }
 {
     let name = NameQuestion::MethodGenericName(class, m, g);
-    let asked = asks::ask_name(tables, strings, blob, options, 0, name, buf);
-    asked.reply
+    asks::ask_name(tables, strings, blob, options, 0, name, buf).reply
 }

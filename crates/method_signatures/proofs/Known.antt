@@ -11,26 +11,25 @@ use Rattle.numbers.specs.Parts.{part}
 use Rattle.numbers.specs.Reading.{Reader}
 use Rattle.buffers.specs.Texts.{Text}
 use Rattle.buffers.specs.Replies.{Answer, refused_by, name_or_5}
-use Rattle.buffers.specs.Telling.{ToldIs, name, missing, no_row}
+use Rattle.buffers.specs.Telling.{Told, ToldIs, name, missing, no_row}
 use Rattle.buffers.specs.declared.Reason.TheVariants.{Untold}
 use Rattle.buffers.specs.declared.Refusal.TheVariants.{NoSuchRow}
-use Rattle.buffers.specs.declared.Told.{Told}
-use Rattle.buffers.specs.declared.Told.TheVariants.{Name, Missing, NoRow}
 use Rattle.buffers.proofs.Writing.{kept_same}
 use Rattle.buffers.proofs.Telling.{told_same}
 use Rattle.record.specs.View.{View}
 use Rattle.record.specs.Methods.{Signature as Found, signature_in, parameter_name}
 use Rattle.record.specs.Record.{Parameter, parameters_from, method}
 use Rattle.record.specs.Answers.{◌⟫◌, item}
-use Rattle.rendering.specs.Rendered.{Rendered}
-use Rattle.rendering.specs.declared.Rendering.{Rendering}
-use Rattle.rendering.specs.declared.Rendering.TheVariants.{Done, Failed}
+use Rattle.rendering.specs.Rendered.{Rendering, Rendered}
 use Rattle.rendering.proofs.Laws.{rendered-done, rendered-failed}
 use Rattle.method_signatures.specs.Signatures.{type_by, types_from, behind}
-use Rattle.method_signatures.specs.Known.{types_of, Reads, key_of, KnowsSignature, About, read_more}
+use Rattle.method_signatures.specs.Known.{types_of, Reads, key_of, KnowsSignature, About, known_behind, read_more}
+use Rattle.method_signatures.specs.declared.Reading.{Reading}
 use Rattle.method_signatures.specs.declared.Signature.{Signature}
 use Rattle.method_signatures.proofs.Laws.{types-length}
 use Rattle.method_signatures.proofs.Values.{Made, parameter-some, parameter-gone}
+use Rattle.std.specs.Prelude.{Ok, Err}
+use Rattle.buffers.specs.declared.Unnamed.TheVariants.{Missing, NoRow}
 
 -- ---- Types behind others
 
@@ -142,37 +141,32 @@ module _ (v : View) (heap : List ℕ) (c m : ℕ) where
   reads_of k mine r = r.signature c m mine.narrow mine.method
 
   -- A reading that was made, behind p types,
-  module _ {b b' : List ℕ} {at owner start len next count end : ℕ} (k : Made v heap c m b at b' owner start len next count end) where
-    made_counted : count ≡ length (types_of v c m)
-    made_counted = sym (ap (λ (l : List (Option Text)). length l) (types-read k.is) ∙ types-length (type_by v m owner) count (part heap start len) next)
+  module _ {b b' : List ℕ} {at : ℕ} {r : Reading} (k : Made v heap c m b at b' r) where
+    made_counted : r.count ≡ length (types_of v c m)
+    made_counted =
+        sym (ap (λ (l : List (Option Text)). length l) (types-read k.is) ∙ types-length (type_by v m r.owner) r.count (part heap r.start r.len) r.next)
 
-    module _ (narrow : m + 1 < 4294967296) {key : ℕ} (its : key ≡ key_of c m) where
-      pub knows-behind : (p : ℕ) → p ≤ count → {sig : List ℕ} → sig ≡ part heap start len → {p' q total : ℕ} → p' ≡ p → q ≡ behind (type_by v m owner) p' sig next → total ≡ count
-          → KnowsSignature v heap (record { method = key; owner = owner; start = start; len = len; count = total; read = p'; next = q })
-      knows-behind p h is e f g =
-          rw (f, e, g, is) (knows-of _ (record { narrow = narrow; method = its }) (record {
-            inside = k.inside;
-            counted = made_counted;
-            rest = ap (drop p) (types-read k.is) ∙ types-behind (type_by v m owner) count p (part heap start len) next h;
-          }))
+    module _ (narrow : m + 1 < 4294967296) where
+      knows-made : {read next : ℕ} → drop read (types_of v c m) ≡ types_from (type_by v m r.owner) (r.count - read) (part heap r.start r.len) next
+          → KnowsSignature v heap (known_behind r c m read next)
+      knows-made rest = knows-of _ (record { narrow = narrow; method = refl }) (record { inside = k.inside; counted = made_counted; rest = rest })
+
+      pub knows-behind : {p next : ℕ} → p ≤ r.count → {sig : List ℕ} → sig ≡ part heap r.start r.len → next ≡ behind (type_by v m r.owner) p sig r.next
+          → KnowsSignature v heap (known_behind r c m p next)
+      knows-behind {p} h is e =
+          rw (e, is) (knows-made (ap (drop p) (types-read k.is) ∙ types-behind (type_by v m r.owner) r.count p (part heap r.start r.len) r.next h))
 
       -- at the first of them,
-      pub knows-first : {total : ℕ} → total ≡ count
-          → KnowsSignature v heap (record { method = key; owner = owner; start = start; len = len; count = total; read = 0; next = next })
+      pub knows-first : KnowsSignature v heap (known_behind r c m 0 r.next)
       unfolding behind
-      knows-first e = knows-behind 0 (omega arith) refl refl refl e
+      knows-first = knows-behind (omega arith) refl refl
 
       -- past all of them,
-      pub knows-past : (p : ℕ) → count ≤ p → {p' total : ℕ} → p' ≡ p → total ≡ count
-          → KnowsSignature v heap (record { method = key; owner = owner; start = start; len = len; count = total; read = p'; next = next })
-      knows-past p h e f =
-          let z : count - p ≡ 0 = omega arith in
-          rw (e, f) (knows-of _ (record { narrow = narrow; method = its }) (record {
-            inside = k.inside;
-            counted = made_counted;
-            rest = ap (drop p) (types-read k.is) ∙ types-gone (type_by v m owner) count p (part heap start len) next h
-                ∙ sym (types-over (type_by v m owner) (part heap start len) next z);
-          }))
+      pub knows-past : {p : ℕ} → r.count ≤ p → KnowsSignature v heap (known_behind r c m p r.next)
+      knows-past {p} h =
+          let z : r.count - p ≡ 0 = omega arith in
+          knows-made (ap (drop p) (types-read k.is) ∙ types-gone (type_by v m r.owner) r.count p (part heap r.start r.len) r.next h
+          ∙ sym (types-over (type_by v m r.owner) (part heap r.start r.len) r.next z))
 
   -- and none.
   pub knows-none : m + 1 < 4294967296 → {key : ℕ} → key ≡ key_of c m → (p : ℕ) → signature_in v c m ≡ none
@@ -188,7 +182,7 @@ module _ (v : View) (heap : List ℕ) (c m : ℕ) where
 -- ---- The name of a parameter
 
 module _ (v : View) (heap : List ℕ) (c m p : ℕ) (k : Signature) (known : KnowsSignature v heap k) (mine : About k c m) where
-  pub told-no-param : (b : List ℕ) (at : ℕ) → k.count ≤ p → ToldIs (item (method v c m).parameters p ⟫ (λ x. name_or_5 x.name)) b at b NoRow
+  pub told-no-param : (b : List ℕ) (at : ℕ) → k.count ≤ p → ToldIs (item (method v c m).parameters p ⟫ (λ x. name_or_5 x.name)) b at b (Err NoRow)
   told-no-param b at h =
       no_row (answer-gone v heap c m (λ x. name_or_5 x.name) p (element-past (types_of v c m) p (omega (arith, (reads_of v heap c m k mine known).counted))))
       (kept_same b at)
@@ -215,7 +209,7 @@ module _ (v : View) (heap : List ℕ) (c m p : ℕ) (k : Signature) (known : Kno
   pub part-inside : k.start + k.len ≤ length heap
   part-inside = reads.inside
 
-  pub told-past : (b : List ℕ) (at : ℕ) → k.count ≤ k.read → ToldIs (item (method v c m).parameters p ⟫ (λ x. name_or_5 x.type)) b at b NoRow
+  pub told-past : (b : List ℕ) (at : ℕ) → k.count ≤ k.read → ToldIs (item (method v c m).parameters p ⟫ (λ x. name_or_5 x.type)) b at b (Err NoRow)
   told-past b at h =
       let z : k.count - k.read ≡ 0 = omega arith in
       no_row (answer-gone v heap c m (λ x. name_or_5 x.type) p (drop-none (types_of v c m) p (rest ∙ types-over here sig k.next z))) (kept_same b at)
@@ -239,14 +233,14 @@ module _ (v : View) (heap : List ℕ) (c m p : ℕ) (k : Signature) (known : Kno
       at_part : Rendered (here sig k.next) b at b' r
       at_part = rw is at rendered
 
-      pub told-type : {end next : ℕ} → r ≡ Done end next → {k' : Signature} → k' ≡ read_more k next
-          → ToldIs (item (method v c m).parameters p ⟫ (λ x. name_or_5 x.type)) b at b' (Name end) × KnowsSignature v heap k'
+      pub told-type : {end next : ℕ} → r ≡ Ok (end, next) → {k' : Signature} → k' ≡ read_more k next
+          → ToldIs (item (method v c m).parameters p ⟫ (λ x. name_or_5 x.type)) b at b' (Ok end) × KnowsSignature v heap k'
       told-type e f =
           let x = rendered-done at_part e in
           (name x.text (answer-there v heap c m p (drop_head (types_of v c m) p split) ∙ ap name_or_5 x.got) x.wrote, rw f (next_known x.on))
 
-      pub told-no-type : {next : ℕ} → r ≡ Failed next → {k' : Signature} → k' ≡ read_more k next
-          → ToldIs (item (method v c m).parameters p ⟫ (λ x. name_or_5 x.type)) b at b' (Missing Untold) × KnowsSignature v heap k'
+      pub told-no-type : {next : ℕ} → r ≡ Err next → {k' : Signature} → k' ≡ read_more k next
+          → ToldIs (item (method v c m).parameters p ⟫ (λ x. name_or_5 x.type)) b at b' (Err (Missing Untold)) × KnowsSignature v heap k'
       told-no-type e f =
           let x = rendered-failed at_part e in
           (missing (answer-there v heap c m p (drop_head (types_of v c m) p split) ∙ ap name_or_5 x.got) x.keeps, rw f (next_known x.on))

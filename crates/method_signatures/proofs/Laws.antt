@@ -5,7 +5,7 @@ use mathlib.Core.Bool.{Bool, true, false, cond, ◌&&◌, ◌||◌}
 use mathlib.Core.List.{List, [], ◌∷◌, map}
 use mathlib.Core.Option.{Option, none, some}
 use Prim.Native.Nat.{ℕ, zero, suc, ◌+◌, ◌-◌, ◌*◌, ◌≤◌, ◌<◌}
-use mathlib.Core.Logic.{⊎_elim}
+use mathlib.Core.Logic.{◌⊎◌, inl, inr, ⊎_elim}
 use native.Mathlib.Nat.{eq-zero-or-pos}
 use native.Mathlib.Omega.{arith}
 use borrow.Author.Tests.{eq-eqb, ne_eqb, le-leb, lt-leb, lt-ltb, le-ltb}
@@ -13,17 +13,13 @@ use lib.Dec.{T, eqb, leb, ltb, leb→le, ltb→lt}
 use lib.ListN.{length}
 use Rattle.numbers.specs.Lists.{tabulate}
 use Rattle.numbers.specs.Reading.{Res, Reader, some_at, none_at}
-use Rattle.numbers.specs.Compressed.{uint_says}
+use Rattle.numbers.specs.Compressed.{Uint, uint_says}
 use Rattle.numbers.specs.Parts.{part}
-use Rattle.numbers.specs.declared.Uint.{Uint}
-use Rattle.numbers.specs.declared.Uint.TheVariants.{Number, NoNumber}
 use Rattle.buffers.specs.Texts.{Text}
 use Rattle.buffers.specs.Writes.{Kept, Wrote}
 use Rattle.buffers.proofs.Writing.{kept_same}
-use Rattle.heaps.specs.Lookups.{blob_at, blob}
+use Rattle.heaps.specs.Lookups.{Part, blob_at, blob}
 use Rattle.buffers.specs.declared.Reason.{Reason}
-use Rattle.heaps.specs.declared.Part.{Part}
-use Rattle.heaps.specs.declared.Part.TheVariants.{Found, Absent}
 use Rattle.heaps.proofs.Lookups.{blob-within}
 use Rattle.layouts.specs.Kinds.{method_def}
 use Rattle.layouts.proofs.Reaches.{and_left, and_right}
@@ -41,18 +37,35 @@ use Rattle.rows.specs.Columns as columns
 use Rattle.rows.specs.Layout.{Laid, Ascends, rows_at, is_marked, cell, options_in, view_in}
 use Rattle.rows.proofs.Laws.{rows-at, rows-narrow, marked-ascends}
 use Rattle.rows.proofs.Classes.{classes-are, methods-are, list_at}
-use Rattle.rendering.specs.Rendered.{Rendered}
-use Rattle.rendering.specs.declared.Rendering.{Rendering}
-use Rattle.rendering.specs.declared.Rendering.TheVariants.{Done, Failed}
+use Rattle.rendering.specs.Rendered.{Rendering, Rendered}
 use Rattle.rendering.proofs.Laws.{rendered-done, rendered-failed}
-use Rattle.sig_leaves.specs.declared.Owner.TheVariants.{Of}
 use Rattle.sig_leaves.proofs.Specs.{blob-some, blob-absent}
 use Rattle.signatures.specs.Environment.{env_in}
-use Rattle.method_signatures.specs.Signatures.{types_from, behind, ReadFrom, PastMethod, ReaderIs, FirstIn, NextIn, ReadingIs, read, missing}
-use Rattle.method_signatures.specs.declared.ClassReader.{ClassReader}
-use Rattle.method_signatures.specs.declared.ClassReader.TheVariants.{By, Nobody}
+use Rattle.method_signatures.specs.Signatures.{ClassReader, types_from, behind, ReadFrom, PastMethod, ReaderIs, FirstIn, NextIn, ReadingIs, read, missing}
 use Rattle.method_signatures.specs.declared.Reading.{Reading}
-use Rattle.method_signatures.specs.declared.Reading.TheVariants.{Read, Missing}
+use Rattle.std.specs.declared.option.Option as std
+use Rattle.std.specs.Option.{is_some}
+use Rattle.std.specs.Result.{result_ok}
+use Rattle.std.specs.Prelude.{Result}
+use Rattle.std.proofs.lemmas.Option.{none-some, same_Some}
+use Rattle.std.specs.Prelude.{Some, None, Ok, Err}
+
+-- ---- Results of which the value is kept
+
+module _ {A E : Type 0} where
+  pub value-there : (r : Result A E) {x : A} → result_ok r ≡ Some x → r ≡ Ok x
+  value-there (Ok y) {x} e = ap Ok (same_Some y x e)
+  value-there (Err w) {x} e = absurd (none-some x e)
+
+  pub value-gone : (r : Result A E) → result_ok r ≡ None → {P : Type 0} → ((w : E) → r ≡ Err w → P) → P
+  value-gone (Ok x) e k = absurd (none-some x (sym e))
+  value-gone (Err w) e k = k w refl
+
+-- The position behind a rendering, whether it has a text or not.
+pub rendered-next : {d : Res Text} {b b' : List ℕ} {at next : ℕ} {r : Rendering} → Rendered d b at b' r
+    → ((end : ℕ) × (r ≡ Ok (end, next))) ⊎ (r ≡ Err next) → d.next ≡ next
+rendered-next h (inl e) = (rendered-done h e.1).on
+rendered-next h (inr e) = (rendered-failed h e).on
 
 -- ---- The types of parameters
 
@@ -113,14 +126,14 @@ module _ {t l : List ℕ} (laid : Laid t l) (strings heap : List ℕ) (m c : ℕ
     looked-at : p ≡ blob_at heap (cell t l columns.method_signature m)
     looked-at = looked ∙ ap (blob_at heap) told
 
-    pub unread-blob : {why : Reason} → p ≡ Absent why → reading v m c ≡ none_at 0
+    pub unread-blob : {why : Reason} → p ≡ Err why → reading v m c ≡ none_at 0
     unread-blob f = by-class ∙ ap (in_blob (signature e)) (blob-absent heap (cell t l columns.method_signature m) (sym f ∙ looked-at))
 
-    pub no-blob : (b : List ℕ) (at : ℕ) {why : Reason} → p ≡ Absent why → ReadingIs v heap m (read_by v m c) b at b Missing
+    pub no-blob : (b : List ℕ) (at : ℕ) {why : Reason} → p ≡ Err why → ReadingIs v heap m (read_by v m c) b at b None
     unfolding read_by
     no-blob b at f = missing (ap (λ (d : Res Signature). d.got) (unread-blob f)) (kept_same b at)
 
-    module _ {start len : ℕ} (f : p ≡ Found start len) where
+    module _ {start len : ℕ} (f : p ≡ Ok (record { start = start; len = len })) where
       pub inside : start + len ≤ length heap
       inside = blob-within heap (cell t l columns.method_signature m) (sym f ∙ looked-at)
 
@@ -135,21 +148,22 @@ module _ {t l : List ℕ} (laid : Laid t l) (strings heap : List ℕ) (m c : ℕ
         start-at : uint_says u ≡ method_start (part heap start len) 0
         start-at = rw is at counted
 
-        pub no_start : (b : List ℕ) (at : ℕ) {next : ℕ} → u ≡ NoNumber next → ReadingIs v heap m (read_by v m c) b at b Missing
+        pub no_start : (b : List ℕ) (at : ℕ) {next : ℕ} → u ≡ Err next → ReadingIs v heap m (read_by v m c) b at b None
         no_start b at g = missing (of_part ∙ signature-cut e (part heap start len) (ap uint_says (sym g) ∙ start-at)) (kept_same b at)
 
-        module _ {n first : ℕ} (g : u ≡ Number n first) {owner : ℕ} (its : owner ≡ 2 * (c + 2)) {b b' : List ℕ} {at : ℕ} {r : Rendering}
-            (rendered : Rendered (type (env_in t l strings heap (Of owner) (Of (2 * (m + 1) + 1))) levels sig first) b at b' r) where
+        module _ {n first : ℕ} (g : u ≡ Ok (n, first)) {owner : ℕ} (its : owner ≡ 2 * (c + 2)) {b b' : List ℕ} {at : ℕ} {r : Rendering}
+            (rendered : Rendered (type (env_in t l strings heap (Some owner) (Some (2 * (m + 1) + 1))) levels sig first) b at b' r) where
           here : Rendered (type e levels (part heap start len) first) b at b' r
           unfolding env_in
           here = rw (is, its) at rendered
 
-          pub no-type : {next : ℕ} → r ≡ Failed next → ReadingIs v heap m (read_by v m c) b at b' Missing
+          pub no-type : {next : ℕ} → r ≡ Err next → ReadingIs v heap m (read_by v m c) b at b' None
           no-type k =
               let x = rendered-failed here k in
               missing (of_part ∙ signature-unread e (part heap start len) (ap uint_says (sym g) ∙ start-at) x.got) x.keeps
 
-          pub signature-there : {end next : ℕ} → r ≡ Done end next → ReadingIs v heap m (read_by v m c) b at b' (Read owner start len next n end)
+          pub signature-there : {end next : ℕ} → r ≡ Ok (end, next)
+              → ReadingIs v heap m (read_by v m c) b at b' (Some (record { owner = owner; start = start; len = len; next = next; count = n; end = end }))
           signature-there k =
               let x = rendered-done here k in
               rw its (read x.text inside (of_part ∙ signature-read e (part heap start len) (ap uint_says (sym g) ∙ start-at) x.got x.on) x.wrote)
@@ -173,25 +187,23 @@ wrote-behind k w = record {
 
 module _ {v : View} {heap : List ℕ} {m : ℕ} {d : Option Signature} {b b' : List ℕ} {at : ℕ} where
   -- What was kept before it is kept after it.
-  pub reading-behind : {b₀ : List ℕ} {r : Reading} → Kept b₀ at b → ReadingIs v heap m d b at b' r → ReadingIs v heap m d b₀ at b' r
-  reading-behind k (read {end = end} t i q w) = read {end = end} t i q (wrote-behind k w)
+  pub reading-behind : {b₀ : List ℕ} {r : std.Option Reading} → Kept b₀ at b → ReadingIs v heap m d b at b' r → ReadingIs v heap m d b₀ at b' r
+  reading-behind k (read t i q w) = read t i q (wrote-behind k w)
   reading-behind k (missing q n) = missing q (kept-twice k n)
 
-  missed : ReadingIs v heap m d b at b' Missing → (d ≡ none) × Kept b at b'
-  missed (missing e n) = (e, n)
+  pub reading-missed : ReadingIs v heap m d b at b' None → (d ≡ none) × Kept b at b'
+  reading-missed (missing e n) = (e, n)
+
+  -- By what the code tests.
+  pub reading-lost : {r : std.Option Reading} → ReadingIs v heap m d b at b' r → is_some r ≡ false → (d ≡ none) × Kept b at b'
+  reading-lost (read t i e w) f = absurd (subst T f tt)
+  reading-lost (missing e n) f = (e, n)
 
   -- A reading that succeeded is whatever it stands for.
-  stands : {d' : Option Signature} {owner start len next count end : ℕ} → ((s : Signature) → d ≡ some s → d' ≡ some s)
-      → ReadingIs v heap m d b at b' (Read owner start len next count end) → ReadingIs v heap m d' b at b' (Read owner start len next count end)
-  stands f (read t i e w) = read t i (f _ e) w
-
-  module _ {r : Reading} (h : ReadingIs v heap m d b at b' r) where
-    pub reading-missed : r ≡ Missing → (d ≡ none) × Kept b at b'
-    reading-missed e = missed (subst (ReadingIs v heap m d b at b') e h)
-
-    pub reading-stands : {d' : Option Signature} {owner start len next count end : ℕ} → ((s : Signature) → d ≡ some s → d' ≡ some s)
-        → r ≡ Read owner start len next count end → ReadingIs v heap m d' b at b' (Read owner start len next count end)
-    reading-stands f e = stands f (subst (ReadingIs v heap m d b at b') e h)
+  pub reading-stands : {r : std.Option Reading} {d' : Option Signature} → ((s : Signature) → d ≡ some s → d' ≡ some s)
+      → ReadingIs v heap m d b at b' r → is_some r ≡ true → ReadingIs v heap m d' b at b' r
+  reading-stands f (read t i e w) g = read t i (f _ e) w
+  reading-stands f (missing e n) g = absurd (subst T (sym g) tt)
 
 -- ---- Within a class's methods
 
@@ -432,7 +444,7 @@ module _ {t l : List ℕ} (laid : Laid t l) (strings heap : List ℕ) where
     u = view_in t l strings heap
 
     pub read-last : m < rows_at l columns.method_signature → first ≤ m → from + 1 < row → row ≡ rows_at l columns.method_list → {next : ClassNumber} → next ≡ class_at row
-        → ReaderIs u m from (By class next)
+        → ReaderIs u m from (Some (class, next))
     read-last h lo f e is =
         let all = classes-are laid strings heap columns.method_list (omega arith) refl in
         rw is (
@@ -442,12 +454,12 @@ module _ {t l : List ℕ} (laid : Laid t l) (strings heap : List ℕ) where
           λ k. absurd (omega arith),
         )
 
-    pub read-nobody : m < first → rows_at l columns.method_list ≤ row → ReaderIs u m from Nobody
+    pub read-nobody : m < first → rows_at l columns.method_list ≤ row → ReaderIs u m from None
     read-nobody hi e = end_none u m (row - 1) (omega (arith, classes-are laid strings heap columns.method_list (omega arith) refl)) _ class.0 first inv hi
 
     module _ (f : first ≤ m → from + 1 < row) (h : row < rows_at l columns.method_list) {col : ℕ} (read : col ≡ cell t l columns.method_list row)
         (n : col ≡ 0 → ⊥) {b : Bool} (has : b ≡ (leb first m && ltb m (col - 1))) where
-      pub read-met : b ≡ true → 0 < row → {next : ClassNumber} → next ≡ class_at row → ReaderIs u m from (By class next)
+      pub read-met : b ≡ true → 0 < row → {next : ClassNumber} → next ≡ class_at row → ReaderIs u m from (Some (class, next))
       read-met e z is =
           let both : T (leb first m && ltb m (col - 1)) = rw (sym has ∙ e) tt in
           let lo : first ≤ m = leb→le first m (and_left (leb first m) (ltb m (col - 1)) both) in
@@ -481,7 +493,7 @@ module _ (v : View) (m : ℕ) {mode : Bool} (e : mode ≡ v.taker) where
   pub first_any : mode ≡ false → (c : ℕ) {first : ℕ} → ReadFrom v m first → FirstIn v c m first
   first_any f c from = (λ g. not-both g (sym e ∙ f), λ _. from)
 
-  pub next-taker : mode ≡ true → (class : ClassNumber) → NextIn v m class (By class class)
+  pub next-taker : mode ≡ true → (class : ClassNumber) → NextIn v m class (Some (class, class))
   next-taker f class = (λ _. refl, λ g. not-both (sym e ∙ f) g)
 
   pub next-any : mode ≡ false → {class : ClassNumber} {r : ClassReader} → ReaderIs v m class.0 r → NextIn v m class r
@@ -506,22 +518,21 @@ module _ (v : View) (m : ℕ) where
     unfolding others_in
     others = rw e
 
-  module _ {class : ClassNumber} {r : ClassReader} (next : NextIn v m class r) where
-    pub read_next : {reader after : ClassNumber} → r ≡ By reader after → readers_in v m class.0 ≡ reader.0 ∷ others_in v m after.0
-    read_next {reader} {after} is = by_mode v.taker refl
-      where
-        by_mode : (b : Bool) → v.taker ≡ b → readers_in v m class.0 ≡ reader.0 ∷ others_in v m after.0
-        by_mode true e =
-            let same : class ≡ reader = cc (next.0 e) in
-            rw (itself e class.0, no-others e after.0, same)
-        by_mode false e = rw (each e class.0, others e after.0) (subst (ReaderIs v m class.0) is (next.1 e)).2
+  pub read_next : {class reader after : ClassNumber} → NextIn v m class (Some (reader, after)) → readers_in v m class.0 ≡ reader.0 ∷ others_in v m after.0
+  read_next {class} {reader} {after} next = by_mode v.taker refl
+    where
+      by_mode : (b : Bool) → v.taker ≡ b → readers_in v m class.0 ≡ reader.0 ∷ others_in v m after.0
+      by_mode true e =
+          let same : reader ≡ class = ap (λ (p : ClassNumber × ClassNumber). p.0) (same_Some _ _ (next.0 e)) in
+          rw (itself e class.0, no-others e after.0, same)
+      by_mode false e = rw (each e class.0, others e after.0) (next.1 e).2
 
-    pub read-by-none : r ≡ Nobody → readers_in v m class.0 ≡ []
-    read-by-none is = by_mode v.taker refl
-      where
-        by_mode : (b : Bool) → v.taker ≡ b → readers_in v m class.0 ≡ []
-        by_mode true e = let z : ◌≡◌ {A = ℕ} 0 1 = cc (next.0 e) in absurd (omega arith)
-        by_mode false e = each e class.0 ∙ subst (ReaderIs v m class.0) is (next.1 e)
+  pub read-by-none : {class : ClassNumber} → NextIn v m class None → readers_in v m class.0 ≡ []
+  read-by-none {class} next = by_mode v.taker refl
+    where
+      by_mode : (b : Bool) → v.taker ≡ b → readers_in v m class.0 ≡ []
+      by_mode true e = absurd (none-some _ (next.0 e))
+      by_mode false e = each e class.0 ∙ next.1 e
 
 -- Whether it is known that one class at most reads the method.
 module _ {t l : List ℕ} (laid : Laid t l) (strings heap : List ℕ) (m : ℕ)
@@ -540,9 +551,9 @@ module _ {t l : List ℕ} (laid : Laid t l) (strings heap : List ℕ) (m : ℕ)
     pub others-on : (c : ℕ) → others_in x m c ≡ readers_in x m c
     others-on c = others x m none-takes c ∙ sym (each x m none-takes c)
 
-  module _ {class reader after : ClassNumber} {r : ClassReader} (next : NextIn x m class r) (is : r ≡ By reader after) where
+  module _ {class reader after : ClassNumber} (next : NextIn x m class (Some (reader, after))) where
     pub reads_on : once ≡ false → (class.0 < after.0) × (after.0 ≤ classes x)
-    reads_on more = let found = subst (ReaderIs x m class.0) is (next.1 (none-takes more)) in (found.0, found.1)
+    reads_on more = let found = next.1 (none-takes more) in (found.0, found.1)
 
     pub alone-reads : once ≡ true → others_in x m after.0 ≡ []
     alone-reads sure = by_mode x.taker refl
@@ -551,7 +562,7 @@ module _ {t l : List ℕ} (laid : Laid t l) (strings heap : List ℕ) (m : ℕ)
         by_mode true e = no-others x m e after.0
         by_mode false e =
             let up = marked-ascends laid columns.method_list (omega arith) (rw e at is-once) sure in
-            others x m e after.0 ∙ past-none laid strings heap up m after.0 (subst (ReaderIs x m class.0) is (next.1 e)).3
+            others x m e after.0 ∙ past-none laid strings heap up m after.0 (next.1 e).3
 
 -- ---- Whose reading stands
 
@@ -560,6 +571,7 @@ unfoldable pub standing : View → ℕ → List ℕ → Option Signature
 standing v m l = first_there (map (read_by v m) l)
 
 module _ (v : View) (m : ℕ) where
+  -- The last of them stands or fails for all.
   last-stands : {A : Type 0} (o : Option A) → first_there (o ∷ []) ≡ o
   last-stands none = refl
   last-stands (some a) = refl
@@ -593,7 +605,11 @@ module _ (v : View) (m : ℕ) where
     unfolding standing
     reader-fails e = rw (is, e)
 
+    pub alone-stands : others ≡ [] → standing v m l ≡ read_by v m reader
+    unfolding standing
+    alone-stands e = rw (is, e) (last-stands (read_by v m reader))
+
 -- A reading by all of them is that of the method, which class c takes.
-pub reading-in : {v : View} {heap : List ℕ} {m : ℕ} (c : ℕ) {first : ℕ} → FirstIn v c m first → {b b' : List ℕ} {at : ℕ} {r : Reading}
+pub reading-in : {v : View} {heap : List ℕ} {m : ℕ} (c : ℕ) {first : ℕ} → FirstIn v c m first → {b b' : List ℕ} {at : ℕ} {r : std.Option Reading}
     → ReadingIs v heap m (standing v m (readers_in v m first)) b at b' r → ReadingIs v heap m (signature_in v c m) b at b' r
 reading-in {v} {heap} {m} c {first} is {b} {b'} {at} {r} = subst (λ (s : Option Signature). ReadingIs v heap m s b at b' r) (sym (signature-stands v m c first is))

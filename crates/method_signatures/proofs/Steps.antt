@@ -9,9 +9,7 @@ use native.Mathlib.Omega.{arith}
 use Rattle.numbers.specs.Reading.{Res}
 use Rattle.numbers.specs.Parts.{part}
 use Rattle.buffers.specs.declared.Reason.{Reason}
-use Rattle.heaps.specs.Lookups.{blob_at}
-use Rattle.heaps.specs.declared.Part.{Part}
-use Rattle.heaps.specs.declared.Part.TheVariants.{Found, Absent}
+use Rattle.heaps.specs.Lookups.{Part, blob_at}
 use Rattle.record.specs.Readings.{total}
 use Rattle.record.specs.View.{View}
 use Rattle.record.specs.Names.{env, class_generics, method_generics}
@@ -19,17 +17,14 @@ use Rattle.record.specs.Methods.{Signature, signature, reading, read_steps, read
 use Rattle.rows.specs.Columns as columns
 use Rattle.rows.specs.Layout.{Laid, Ascends, rows_at, is_marked, cell, view_in}
 use Rattle.rows.proofs.Laws.{marked-ascends}
-use Rattle.sig_leaves.specs.declared.Owner.TheVariants.{Of}
 use Rattle.signatures.specs.Environment.{env_in}
-use Rattle.steps.specs.Counting.{Takes, left, spent}
-use Rattle.steps.specs.declared.Steps.{Steps}
-use Rattle.steps.specs.declared.Steps.TheVariants.{Left, Spent}
+use Rattle.steps.specs.Counting.{Steps, Takes, left, spent}
 use Rattle.steps.proofs.Laws.{takes-left, takes-spent}
-use Rattle.passing.specs.Passing.{Passes, left_of, Suffices}
-use Rattle.passing.specs.declared.Passed.{Passed}
+use Rattle.passing.specs.Passing.{Passage, Passes, left_of, Suffices}
 use Rattle.passing.proofs.Laws.{passes-takes}
 use Rattle.method_signatures.specs.Signatures.{FirstIn}
 use Rattle.method_signatures.proofs.Laws.{unread-blob, read-part, few-readers, readers_in, itself, each}
+use Rattle.std.specs.Prelude.{Some, None, Ok, Err}
 
 -- ---- A class's reading
 
@@ -42,12 +37,12 @@ module _ {t l : List ℕ} (laid : Laid t l) (strings heap : List ℕ) (m c : ℕ
   abbrev v : View
   v = view_in t l strings heap
 
-  pub no-blob-takes : {why : Reason} → p ≡ Absent why → Takes (read_steps v m c) steps (Left steps)
+  pub no-blob-takes : {why : Reason} → p ≡ Err why → Takes (read_steps v m c) steps (Some steps)
   no-blob-takes e =
       let none = steps_of v m c (unread-blob laid strings heap m c h told looked e) in left {rest = steps} (omega (arith, none))
 
-  pub reading-takes : {start len : ℕ} → p ≡ Found start len → {sig : List ℕ} → sig ≡ part heap start len → {owner : ℕ} → owner ≡ 2 * (c + 2)
-      → {q : Passed} {r : Steps} → Passes (signature (env_in t l strings heap (Of owner) (Of (2 * (m + 1) + 1))) sig 0) steps q → r ≡ left_of q
+  pub reading-takes : {start len : ℕ} → p ≡ Ok (record { start = start; len = len }) → {sig : List ℕ} → sig ≡ part heap start len → {owner : ℕ} → owner ≡ 2 * (c + 2)
+      → {q : Passage} {r : Steps} → Passes (signature (env_in t l strings heap (Some owner) (Some (2 * (m + 1) + 1))) sig 0) steps q → r ≡ left_of q
       → Takes (read_steps v m c) steps r
   unfolding env_in
   reading-takes {start} {len} e is its {q} {r} passes rest =
@@ -69,7 +64,7 @@ module _ (v : View) (m : ℕ) where
   pay-start l steps = record { paid = refl }
 
   module _ {all : List ℕ} {steps : ℕ} {l : List ℕ} {have : ℕ} (pays : Paying v m all steps l have) where
-    pub pay-end : l ≡ [] → Takes (steps_by v m all) steps (Left have)
+    pub pay-end : l ≡ [] → Takes (steps_by v m all) steps (Some have)
     unfolding steps_by
     pay-end e = let none : steps_by v m l ≡ 0 = rw e in left {rest = have} (omega (arith, pays.paid, none))
 
@@ -78,10 +73,10 @@ module _ (v : View) (m : ℕ) where
       unfolding steps_by
       one_more = rw is
 
-      pub pay-more : {k : ℕ} → r ≡ Left k → {rest : List ℕ} → others ≡ rest → Paying v m all steps rest k
+      pub pay-more : {k : ℕ} → r ≡ Some k → {rest : List ℕ} → others ≡ rest → Paying v m all steps rest k
       pay-more e f = record { paid = omega (arith, pays.paid, one_more, takes-left takes e, ap (steps_by v m) f) }
 
-      pub pay-spent : r ≡ Spent → Takes (steps_by v m all) steps Spent
+      pub pay-spent : r ≡ None → Takes (steps_by v m all) steps None
       pay-spent e = spent (omega (arith, pays.paid, one_more, takes-spent takes e))
 
 -- ---- Whose readings count, by the mode
@@ -132,10 +127,10 @@ module _ {t l : List ℕ} (laid : Laid t l) (strings heap : List ℕ) (m : ℕ)
           omega (arith, any-steps w c m e, by_all up each)
 
   module _ (h : m < rows_at l columns.method_signature) {p : Part} {i : ℕ} (told : i ≡ cell t l columns.method_signature m) (looked : p ≡ blob_at heap i) where
-    pub blobless-fits : {why : Reason} → p ≡ Absent why → (c : ℕ) → steps_in w c m ≤ steps
+    pub blobless-fits : {why : Reason} → p ≡ Err why → (c : ℕ) → steps_in w c m ≤ steps
     blobless-fits e = by_one (λ c. omega (arith, steps_of w m c (unread-blob laid strings heap m c h told looked e)))
 
-    pub surely-fits : {start len : ℕ} → p ≡ Found start len → {sig : List ℕ} → sig ≡ part heap start len → Suffices sig steps
+    pub surely-fits : {start len : ℕ} → p ≡ Ok (record { start = start; len = len }) → {sig : List ℕ} → sig ≡ part heap start len → Suffices sig steps
         → (c : ℕ) → steps_in w c m ≤ steps
     surely-fits {start} {len} e is suffices =
         let whole = subst (λ (s : List ℕ). Suffices s steps) is suffices in

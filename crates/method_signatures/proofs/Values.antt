@@ -1,5 +1,5 @@
 -- What a reading of a method's signature says of the method: its return type and its parameters. Assumes nothing.
-use mathlib.Core.Path.{◌≡◌, refl, sym, ap, subst, ◌∙◌}
+use mathlib.Core.Path.{◌≡◌, refl, sym, ap, ◌∙◌}
 use mathlib.Core.List.{List, [], ◌∷◌, ◌++◌}
 use mathlib.Core.Option.{Option, none, some}
 use Prim.Native.Nat.{ℕ, zero, suc, ◌+◌, ◌-◌, ◌≤◌, ◌<◌}
@@ -15,12 +15,9 @@ use Rattle.buffers.specs.Writes.{Wrote, Said, written}
 use Rattle.buffers.specs.Replies.{refused_by, value, name_or_5}
 use Rattle.buffers.specs.Telling.{ToldIs, name, missing}
 use Rattle.buffers.specs.declared.Refusal.TheVariants.{NoSuchRow}
-use Rattle.buffers.specs.declared.Told.TheVariants.{Name, Missing as NoName}
-use Rattle.heaps.specs.Lookups.{string_at, string}
+use Rattle.heaps.specs.Lookups.{Part, string_at, string}
 use Rattle.buffers.specs.declared.Reason.{Reason}
 use Rattle.buffers.specs.declared.Reason.TheVariants.{Untold}
-use Rattle.heaps.specs.declared.Part.{Part}
-use Rattle.heaps.specs.declared.Part.TheVariants.{Found, Absent}
 use Rattle.heaps.proofs.Lookups.{string-within, string-some, string-none}
 use Rattle.layouts.specs.Kinds.{param}
 use Rattle.tables.specs.Extents.{kept_rows}
@@ -37,8 +34,9 @@ use Rattle.rows.specs.Layout.{Laid, rows_at, cell, options_in, header_in, view_i
 use Rattle.rows.proofs.Laws.{rows-at}
 use Rattle.method_signatures.specs.Signatures.{type_by, types_from, ReadingIs, read}
 use Rattle.method_signatures.specs.declared.Reading.{Reading}
-use Rattle.method_signatures.specs.declared.Reading.TheVariants.{Read, Missing}
 use Rattle.method_signatures.proofs.Laws.{types-length, reading-missed}
+use Rattle.std.specs.Prelude.{Some, None, Ok, Err}
+use Rattle.buffers.specs.declared.Unnamed.TheVariants.{Missing}
 
 -- ---- Parameters by their types
 
@@ -83,36 +81,33 @@ module _ (v : View) (c m : ℕ) where
 -- ---- A reading that was made
 
 -- What a reading that succeeded found.
-pub record Made (v : View) (heap : List ℕ) (c m : ℕ) (b : List ℕ) (at : ℕ) (b' : List ℕ) (owner start len next count end : ℕ) : Type 0 where
+pub record Made (v : View) (heap : List ℕ) (c m : ℕ) (b : List ℕ) (at : ℕ) (b' : List ℕ) (r : Reading) : Type 0 where
   pub text : Text
-  pub inside : start + len ≤ length heap
-  pub is : signature_in v c m ≡ some (record { returns = text; parameters = types_from (type_by v m owner) count (part heap start len) next })
-  pub wrote : Wrote b at text b' end
+  pub inside : r.start + r.len ≤ length heap
+  pub is : signature_in v c m ≡ some (record { returns = text; parameters = types_from (type_by v m r.owner) r.count (part heap r.start r.len) r.next })
+  pub wrote : Wrote b at text b' r.end
 
 module _ {v : View} {heap : List ℕ} {c m : ℕ} {b b' : List ℕ} {at : ℕ} where
-  made_in : {owner start len next count end : ℕ} → ReadingIs v heap m (signature_in v c m) b at b' (Read owner start len next count end)
-      → Made v heap c m b at b' owner start len next count end
-  made_in (read t i e w) = record { text = t; inside = i; is = e; wrote = w }
+  pub made : {r : Reading} → ReadingIs v heap m (signature_in v c m) b at b' (Some r) → Made v heap c m b at b' r
+  made (read t i e w) = record { text = t; inside = i; is = e; wrote = w }
 
-  module _ {r : Reading} (h : ReadingIs v heap m (signature_in v c m) b at b' r) where
-    pub made : {owner start len next count end : ℕ} → r ≡ Read owner start len next count end → Made v heap c m b at b' owner start len next count end
-    made e = made_in (subst (ReadingIs v heap m (signature_in v c m) b at b') e h)
-
-  module _ {owner start len next count end : ℕ} (k : Made v heap c m b at b' owner start len next count end) where
-    pub told-return : ToldIs (name_or_5 (method v c m).returns) b at b' (Name end)
+  module _ {r : Reading} (k : Made v heap c m b at b' r) where
+    pub told-return : ToldIs (name_or_5 (method v c m).returns) b at b' (Ok r.end)
     told-return = name k.text (ap name_or_5 (read-returns v c m k.is)) k.wrote
 
-    pub parameters-counted : count ≡ length (method v c m).parameters
+    pub parameters-counted : r.count ≡ length (method v c m).parameters
     parameters-counted =
-        sym (ap (λ (l : List Parameter). length l) (read-parameters v c m k.is) ∙ parameters-length v m 0 (types_from (type_by v m owner) count (part heap start len) next) ∙ types-length (type_by v m owner) count (part heap start len) next)
+        sym (ap (λ (l : List Parameter). length l) (read-parameters v c m k.is)
+        ∙ parameters-length v m 0 (types_from (type_by v m r.owner) r.count (part heap r.start r.len) r.next)
+        ∙ types-length (type_by v m r.owner) r.count (part heap r.start r.len) r.next)
 
 -- No reading was made.
-module _ {v : View} {heap : List ℕ} (c : ℕ) {m : ℕ} {b b' : List ℕ} {at : ℕ} {r : Reading} (h : ReadingIs v heap m (signature_in v c m) b at b' r) (e : r ≡ Missing) where
-  pub no_return : ToldIs (name_or_5 (method v c m).returns) b at b' (NoName Untold)
-  no_return = missing (ap name_or_5 (unread-returns v c m (reading-missed h e).0)) (reading-missed h e).1
+module _ {v : View} {heap : List ℕ} (c : ℕ) {m : ℕ} {b b' : List ℕ} {at : ℕ} (h : ReadingIs v heap m (signature_in v c m) b at b' None) where
+  pub no_return : ToldIs (name_or_5 (method v c m).returns) b at b' (Err (Missing Untold))
+  no_return = missing (ap name_or_5 (unread-returns v c m (reading-missed h).0)) (reading-missed h).1
 
   pub no-parameters : 0 ≡ length (method v c m).parameters
-  no-parameters = rw (unread-parameters v c m (reading-missed h e).0)
+  no-parameters = rw (unread-parameters v c m (reading-missed h).0)
 
 -- ---- The names of parameters, by the ParamList column
 
@@ -150,14 +145,14 @@ module _ {t l : List ℕ} (laid : Laid t l) (strings blob : List ℕ) (m : ℕ) 
 
     -- The string that the Param row finds, and the empty name where it finds none.
     module _ {part : Part} (k : first + p ≤ rows_at l columns.param_name) where
-      pub said-no-param : part ≡ string_at strings (cell t l columns.param_name (first + p - 1)) → {why : Reason} → part ≡ Absent why → {b b' : List ℕ} {at end : ℕ} → Wrote b at [] b' end
+      pub said-no-param : part ≡ string_at strings (cell t l columns.param_name (first + p - 1)) → {why : Reason} → part ≡ Err why → {b b' : List ℕ} {at end : ℕ} → Wrote b at [] b' end
           → Said b at b' (parameter_name v m p) (some end)
       said-no-param e f w = rw (name-read k, string-none strings _ (sym f ∙ e)) (written w)
 
 -- The same with a lent heap, of which the string is a part.
 pub said-param : {t l : List ℕ} (laid : Laid t l) (strings : Bor (List ℕ)) (blob : List ℕ) (m : ℕ) (h : m < rows_at l columns.param_list) {first : ℕ} (col : first ≡ cell t l columns.param_list m) (p : ℕ)
     (n : first ≡ 0 → ⊥) (k : first + p ≤ rows_at l columns.param_name) {found : Part} → found ≡ string_at strings.now (cell t l columns.param_name (first + p - 1))
-    → {start len : ℕ} → found ≡ Found start len → {text : Bor (List ℕ)} → CutOf text strings start len
+    → {start len : ℕ} → found ≡ Ok (record { start = start; len = len }) → {text : Bor (List ℕ)} → CutOf text strings start len
     → {b b' : List ℕ} {at end : ℕ} → Wrote b at text.now b' end → Said b at b' (parameter_name (view_in t l strings.now blob) m p) (some end)
 said-param laid strings blob m h col p n k e f c w =
     let there = sym f ∙ e in

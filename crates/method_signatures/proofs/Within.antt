@@ -8,9 +8,7 @@ use native.Mathlib.Nat.{le_trans, mul-le-mul_left}
 use native.Mathlib.Omega.{arith}
 use lib.ListN.{length, length-take, length-drop}
 use Rattle.numbers.specs.Parts.{part}
-use Rattle.heaps.specs.Lookups.{Name, blob_at, blob}
-use Rattle.heaps.specs.declared.Part.{Part}
-use Rattle.heaps.specs.declared.Part.TheVariants.{Found, Absent}
+use Rattle.heaps.specs.Lookups.{Part, Name, blob_at, blob}
 use Rattle.record.specs.Readings.{in_blob}
 use Rattle.record.specs.View.{View, view_of}
 use Rattle.record.specs.Missing.{and_then}
@@ -23,6 +21,7 @@ use Rattle.sig_leaves.proofs.Specs.{blob-some, blob-absent}
 use Rattle.passing.specs.Passing.{SpecsWithin}
 use Rattle.passing.proofs.Bounds.{signature-within}
 use Rattle.method_signatures.proofs.Steps.{by_one}
+use Rattle.std.specs.Prelude.{Ok, Err}
 
 -- A signature is a part of the blob heap.
 part-short : (s : List ℕ) (start n : ℕ) → length (part s start n) ≤ length s
@@ -34,10 +33,10 @@ blob-short : (s : List ℕ) (i : ℕ) (b : List ℕ) → blob s i ≡ some b →
 blob-short s i b e = go (blob_at s i) refl
   where
     go : (p : Part) → blob_at s i ≡ p → length b ≤ length s
-    go (Found start n) f =
+    go (Ok span) f =
         let is = some-injective _ _ (sym e ∙ blob-some s i (sym f)) in
-        omega (arith, ap length is, part-short s start n)
-    go (Absent why) f = absurd (none-ne-some _ (sym (blob-absent s i (sym f)) ∙ e))
+        omega (arith, ap length is, part-short s span.start span.len)
+    go (Err why) f = absurd (none-ne-some _ (sym (blob-absent s i (sym f)) ∙ e))
 
 module _ (v : View) (m : ℕ) where
   signature-short : (b : List ℕ) → signature_blob v m ≡ some b → length b ≤ length v.blob

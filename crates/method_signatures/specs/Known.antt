@@ -8,6 +8,7 @@ use Rattle.record.specs.Missing.{over, or_default}
 use Rattle.record.specs.View.{View}
 use Rattle.record.specs.Methods.{signature_in}
 use Rattle.method_signatures.specs.Signatures.{type_by, types_from}
+use Rattle.method_signatures.specs.declared.Reading.{Reading}
 use Rattle.method_signatures.specs.declared.Signature.{Signature}
 
 -- The types of the parameters of method m, which class c takes; none where it has no signature.
@@ -33,7 +34,19 @@ pub record About (k : Signature) (c m : ℕ) : Type 0 where
   pub narrow : m + 1 < 4294967296
   pub method : k.method ≡ key_of c m
 
--- The same after one more type, whose end is at a position.
+-- What a reading of method m, which class c takes, found, behind so many types, whose end is at a position.
+abbrev pub known_behind : Reading → ℕ → ℕ → ℕ → ℕ → Signature
+known_behind r c m read next = record {
+  method = key_of c m;
+  owner = r.owner;
+  start = r.start;
+  len = r.len;
+  count = r.count;
+  read = read;
+  next = next;
+}
+
+-- What is known, after one more type, whose end is at a position.
 abbrev pub read_more : Signature → ℕ → Signature
 read_more k next = record {
   method = k.method;

@@ -1,6 +1,6 @@
 -- A method's signature (ECMA-335 II.23.2.1), read by a class as far as its return type. The types of its parameters are read on demand,
 -- from the position behind it.
-use Rattle.std.specs.Prelude.{◌≡◌, true, false, List, [], ◌∷◌, ℕ, zero, suc, ◌+◌, ◌≤◌, ◌<◌, length}
+use Rattle.std.specs.Prelude.{◌≡◌, true, false, List, [], ◌∷◌, ℕ, zero, suc, ◌+◌, ◌≤◌, ◌<◌, length, Some, None}
 use Rattle.std.proofs.Math.Option.{Option, none, some}
 use Rattle.numbers.specs.Reading.{Reader}
 use Rattle.numbers.specs.Parts.{part}
@@ -12,10 +12,12 @@ use Rattle.record.specs.View.{View}
 use Rattle.record.specs.Types.{type}
 use Rattle.record.specs.Names.{env, levels, number_in, classes, class_row, method_generics}
 use Rattle.record.specs.Methods.{Signature, readers_from, readers}
-use Rattle.method_signatures.specs.declared.ClassReader.{ClassReader}
-use Rattle.method_signatures.specs.declared.ClassReader.TheVariants.{By, Nobody}
 use Rattle.method_signatures.specs.declared.Reading.{Reading}
-use Rattle.method_signatures.specs.declared.Reading.TheVariants.{Read, Missing}
+use Rattle.std.specs.declared.option.Option as std
+
+-- A class that reads a method, and the class from which on others may read it too, as the code has them.
+abbrev pub ClassReader : Type 0
+ClassReader = std.Option (ClassNumber × ClassNumber)
 
 -- A type in method m's signature, as a class reads it that is this owner of generic parameters.
 abbrev pub type_by : View → ℕ → ℕ → Reader Text
@@ -41,9 +43,9 @@ PastMethod v m c = c < classes v → m + 1 < number_in v method_list (class_row 
 
 -- Of the classes from c on the first that reads method m, and the class from which on the others are, which begins past the method.
 abbrev pub ReaderIs : View → ℕ → ℕ → ClassReader → Type 0
-ReaderIs v m c (By reader next) =
-    (c < next.0) × (next.0 ≤ classes v) × (readers_from v m c ≡ reader.0 ∷ readers_from v m next.0) × PastMethod v m next.0
-ReaderIs v m c Nobody = readers_from v m c ≡ []
+ReaderIs v m c (Some found) =
+    (c < found.1.0) × (found.1.0 ≤ classes v) × (readers_from v m c ≡ found.0.0 ∷ readers_from v m found.1.0) × PastMethod v m found.1.0
+ReaderIs v m c None = readers_from v m c ≡ []
 
 -- With which class the search for the readers of method m begins, by the mode: with c, which takes it; or with one before which none reads it.
 abbrev pub FirstIn : View → ℕ → ℕ → ℕ → Type 0
@@ -51,12 +53,12 @@ FirstIn v c m first = (v.taker ≡ true → first ≡ c) × (v.taker ≡ false �
 
 -- Who reads method m next, by the mode: the class itself; or the first from it on that reads it.
 abbrev pub NextIn : View → ℕ → ClassNumber → ClassReader → Type 0
-NextIn v m class r = (v.taker ≡ true → r ≡ By class class) × (v.taker ≡ false → ReaderIs v m class.0 r)
+NextIn v m class r = (v.taker ≡ true → r ≡ Some (class, class)) × (v.taker ≡ false → ReaderIs v m class.0 r)
 
 -- From the buffer b to b', r is the reading d of method m's signature: the return type was written at the place, and the parameters' types
 -- follow in that part of the blob heap, as that owner's class reads them; or there is no reading, and nothing before the place changed.
-pub data ReadingIs (v : View) (heap : List ℕ) (m : ℕ) (d : Option Signature) (b : List ℕ) (at : ℕ) (b' : List ℕ) : Reading → Type 0 where
-  read : {owner start len next count end : ℕ} (t : Text) → start + len ≤ length heap
-      → d ≡ some (record { returns = t; parameters = types_from (type_by v m owner) count (part heap start len) next })
-      → Wrote b at t b' end → ReadingIs v heap m d b at b' (Read owner start len next count end)
-  missing : d ≡ none → Kept b at b' → ReadingIs v heap m d b at b' Missing
+pub data ReadingIs (v : View) (heap : List ℕ) (m : ℕ) (d : Option Signature) (b : List ℕ) (at : ℕ) (b' : List ℕ) : std.Option Reading → Type 0 where
+  read : {r : Reading} (t : Text) → r.start + r.len ≤ length heap
+      → d ≡ some (record { returns = t; parameters = types_from (type_by v m r.owner) r.count (part heap r.start r.len) r.next })
+      → Wrote b at t b' r.end → ReadingIs v heap m d b at b' (Some r)
+  missing : d ≡ none → Kept b at b' → ReadingIs v heap m d b at b' None

@@ -21,34 +21,29 @@ ghost use Rattle.rows.specs.Layout.{Laid, rows_at, is_marked, view_in};
 ghost use Rattle.signatures.specs.Environment.{env_in};
 ghost use Rattle.steps.specs.Counting.{Takes};
 ghost use Rattle.method_signatures.specs.Signatures.{behind, FirstIn, ReaderIs, NextIn, ReadingIs};
-ghost use Rattle.method_signatures.specs.Known.{key_of, KnowsSignature, About, read_more};
+ghost use Rattle.method_signatures.specs.Known.{key_of, KnowsSignature, About, known_behind, read_more};
 
-use buffers::{Place, Reason, Told};
+use buffers::{Reason, Told, Unnamed};
 use classes::ClassNumber;
-use heaps::Part;
-use numbers::{Uint, wide};
-use rendering::Rendering;
+use heaps::Span;
+use numbers::wide;
 use rows::columns;
 use sig_leaves::{LEVELS, Owner};
-use steps::Steps;
 
 // A method's signature as a class reads it: the class as an owner of generic parameters, where in the blob heap the signature stands, the
 // position behind the return type, the number of parameters, and the place behind the return type's text in the buffer.
-#[derive(Drop)]
-pub enum Reading {
-    Read {
-        owner: usize,
-        start: usize,
-        len: usize,
-        next: usize,
-        count: u32,
-        end: usize,
-    },
-    Missing,
+#[derive(Clone, Copy, Debug, PartialEq, Eq)]
+pub struct Reading {
+    pub owner: usize,
+    pub start: usize,
+    pub len: usize,
+    pub next: usize,
+    pub count: u32,
+    pub end: usize,
 }
 
 // The signature of a method, as far as the types of some of its parameters have been read.
-#[derive(Clone, Copy)]
+#[derive(Clone, Copy, Debug, PartialEq, Eq)]
 pub struct Signature {
     // the class that takes the method, and the method, as one number (`key_of`); 0 where no signature is known
     pub method: usize,
@@ -63,17 +58,10 @@ pub struct Signature {
 }
 
 // What an answer came to, and what is known of the signature after it.
-#[derive(Drop)]
+#[derive(Clone, Copy, Debug, PartialEq, Eq)]
 pub struct Typed {
     pub told: Told,
     pub signature: Signature,
-}
-
-// A class that reads a method, and the class from which on others may read it too.
-#[derive(Drop)]
-pub enum ClassReader {
-    By(ClassNumber, ClassNumber),
-    Nobody,
 }
 
 // More than any table has rows, so that the methods of one class are numbered apart from those of another.
@@ -89,48 +77,39 @@ fn read_by(
     layout: &[u32],
     m: usize,
     class: ClassNumber,
-) -> Reading
+) -> Option<Reading>
     requires laid { Laid tables.now layout.now }
     requires m_bound { m < rows_at layout.now columns.method_signature }
     ensures { let v = view_in tables.now layout.now strings.now blob.now in
         ReadingIs v blob.now m (read_by v m class.0) buf.old at buf.new result }
 {
     let index = rows::read_column(tables, layout, columns::METHOD_SIGNATURE, m);
-    match heaps::get_blob(blob, index as usize) {
-        Part::Found { start, len } => {
-            let sig = numbers::cut(blob, start, len);
-            let owner = classes::owner_of(class);
-            match sig_leaves::read_method_start(sig, 0) {
-                Uint::Number(count, first) => {
-                    match signatures::parse_sig_type(
-                        buf,
-                        at,
-                        tables,
-                        strings,
-                        blob,
-                        layout,
-                        Owner::Of(owner),
-                        Owner::Of(2 * (m + 1) + 1),
-                        sig,
-                        first,
-                        LEVELS,
-                    ) {
-                        Rendering::Done(end, next) => Reading::Read {
-                            owner,
-                            start,
-                            len,
-                            next,
-                            count,
-                            end,
-                        },
-                        Rendering::Failed(_) => Reading::Missing,
-                    }
-                }
-                Uint::NoNumber(_) => Reading::Missing,
-            }
-        }
-        Part::Absent(_) => Reading::Missing,
-    }
+    let Span { start, len } = heaps::get_blob(blob, index as usize).ok()?;
+    let sig = numbers::cut(blob, start, len);
+    let owner = classes::owner_of(class);
+    let (count, first) = sig_leaves::read_method_start(sig, 0).ok()?;
+    let (end, next) = signatures::parse_sig_type(
+        buf,
+        at,
+        tables,
+        strings,
+        blob,
+        layout,
+        Some(owner),
+        Some(2 * (m + 1) + 1),
+        sig,
+        first,
+        LEVELS,
+    )
+    .ok()?;
+    Some(Reading {
+        owner,
+        start,
+        len,
+        next,
+        count,
+        end,
+    })
 }
 
 // Whether the methods from first up to an end have m.
@@ -150,13 +129,13 @@ fn first_reader(tables: &[u8], layout: &[u32], taker: ClassNumber, m: usize) -> 
     if rows::is_taker(layout) {
         return taker;
     }
-    if rows::is_marked(layout, columns::METHOD_LIST) {
-        let place = classes::place_of(taker);
-        if place < rows::count_rows(layout, columns::METHOD_LIST) {
-            let column = rows::read_column(tables, layout, columns::METHOD_LIST, place) as usize;
-            if column <= m + 1 {
-                return taker;
-            }
+    let place = classes::place_of(taker);
+    if rows::is_marked(layout, columns::METHOD_LIST)
+        && place < rows::count_rows(layout, columns::METHOD_LIST)
+    {
+        let column = rows::read_column(tables, layout, columns::METHOD_LIST, place) as usize;
+        if column <= m + 1 {
+            return taker;
         }
     }
     ClassNumber(0)
@@ -164,7 +143,12 @@ fn first_reader(tables: &[u8], layout: &[u32], taker: ClassNumber, m: usize) -> 
 
 // The first class from one on that reads method m. A class reads from its first method up to that of the next class whose MethodList
 // column is not 0, so it is known to read m once that one is met.
-fn next_reader(tables: &[u8], layout: &[u32], m: usize, from: ClassNumber) -> ClassReader
+fn next_reader(
+    tables: &[u8],
+    layout: &[u32],
+    m: usize,
+    from: ClassNumber,
+) -> Option<(ClassNumber, ClassNumber)>
     requires laid { Laid tables.now layout.now }
     requires m_bound { m < rows_at layout.now columns.method_signature }
     ensures { (strings blob : List ℕ) → ReaderIs (view_in tables.now layout.now strings blob) m from.0 result }
@@ -172,33 +156,37 @@ fn next_reader(tables: &[u8], layout: &[u32], m: usize, from: ClassNumber) -> Cl
     let n = rows::count_rows(layout, columns::METHOD_LIST);
     let mut class = from;
     let mut first = m + 1;
-    let mut place = classes::place_of(from);
-    while place < n {
+    for place in classes::place_of(from)..n {
         let column = rows::read_column(tables, layout, columns::METHOD_LIST, place) as usize;
-        let next = classes::class_at(place);
-        place += 1;
-        if column != 0 {
-            if has_method(first, column - 1, m) {
-                return ClassReader::By(class, next);
-            }
-            class = next;
-            first = column - 1;
+        if column == 0 {
+            continue;
         }
+        let next = classes::class_at(place);
+        if has_method(first, column - 1, m) {
+            return Some((class, next));
+        }
+        class = next;
+        first = column - 1;
     }
     if first <= m {
-        return ClassReader::By(class, classes::class_at(place));
+        return Some((class, classes::class_at(n)));
     }
-    ClassReader::Nobody
+    None
 }
 
 // The same by the mode: in that of the taker the class itself reads the method, and no other does.
-fn next_in_mode(tables: &[u8], layout: &[u32], m: usize, class: ClassNumber) -> ClassReader
+fn next_in_mode(
+    tables: &[u8],
+    layout: &[u32],
+    m: usize,
+    class: ClassNumber,
+) -> Option<(ClassNumber, ClassNumber)>
     requires laid { Laid tables.now layout.now }
     requires m_bound { m < rows_at layout.now columns.method_signature }
     ensures { (strings blob : List ℕ) → NextIn (view_in tables.now layout.now strings blob) m class result }
 {
     if rows::is_taker(layout) {
-        return ClassReader::By(class, class);
+        return Some((class, class));
     }
     next_reader(tables, layout, m, class)
 }
@@ -214,7 +202,7 @@ fn read_signature(
     layout: &[u32],
     taker: ClassNumber,
     m: usize,
-) -> Reading
+) -> Option<Reading>
     requires laid { Laid tables.now layout.now }
     requires m_bound { m < rows_at layout.now columns.method_signature }
     ensures { let v = view_in tables.now layout.now strings.now blob.now in
@@ -223,38 +211,12 @@ fn read_signature(
     let alone = is_read_once(layout);
     let mut class = first_reader(tables, layout, taker, m);
     loop {
-        match next_in_mode(tables, layout, m, class) {
-            ClassReader::By(reader, after) => {
-                match read_by(buf, at, tables, strings, blob, layout, m, reader) {
-                    Reading::Read {
-                        owner,
-                        start,
-                        len,
-                        next,
-                        count,
-                        end,
-                    } => {
-                        return Reading::Read {
-                            owner,
-                            start,
-                            len,
-                            next,
-                            count,
-                            end,
-                        };
-                    }
-                    Reading::Missing => {
-                        if alone {
-                            return Reading::Missing;
-                        }
-                        class = after;
-                    }
-                }
-            }
-            ClassReader::Nobody => {
-                return Reading::Missing;
-            }
+        let (reader, after) = next_in_mode(tables, layout, m, class)?;
+        let reading = read_by(buf, at, tables, strings, blob, layout, m, reader);
+        if alone || reading.is_some() {
+            return reading;
         }
+        class = after;
     }
 }
 
@@ -274,8 +236,8 @@ pub fn count_params(
 {
     let mut space = [0u8; 1];
     match read_signature(&mut space, 0, tables, strings, blob, layout, taker, m) {
-        Reading::Read { count, .. } => count as usize,
-        Reading::Missing => 0,
+        Some(reading) => wide(reading.count),
+        None => 0,
     }
 }
 
@@ -297,16 +259,11 @@ fn skip_types(
         (result ≡ behind (type e levels) count sig.now pos) × (length buf.new ≡ length buf.old) }
 {
     let mut p = pos;
-    let mut i = 0;
-    while i < count {
-        i += 1;
+    for _i in 0..count {
         match signatures::parse_sig_type(
             buf, 0, tables, strings, blob, layout, class, method, sig, p, LEVELS,
         ) {
-            Rendering::Done(_, next) => {
-                p = next;
-            }
-            Rendering::Failed(next) => {
+            Ok((_, next)) | Err(next) => {
                 p = next;
             }
         }
@@ -353,6 +310,28 @@ fn unread_signature(taker: ClassNumber, m: usize, read: usize) -> Signature
     }
 }
 
+// What a reading of method m found, behind so many types, whose end is at a position.
+fn known_behind(
+    reading: Reading,
+    taker: ClassNumber,
+    m: usize,
+    read: usize,
+    next: usize,
+) -> Signature
+    requires { m + 1 < 4294967296 }
+    ensures { result ≡ known_behind reading taker.0 m read next }
+{
+    Signature {
+        method: key_of(taker, m),
+        owner: reading.owner,
+        start: reading.start,
+        len: reading.len,
+        count: wide(reading.count),
+        read,
+        next,
+    }
+}
+
 // What the answer for the return type of method m comes to at a place.
 pub fn tell_return_type(
     buf: &mut [u8],
@@ -370,36 +349,14 @@ pub fn tell_return_type(
         ToldIs (name_or_5 (method v taker.0 m).returns) buf.old at buf.new result.told ×
         KnowsSignature v blob.now result.signature }
 {
-    match read_signature(buf, at, tables, strings, blob, layout, taker, m) {
-        Reading::Read {
-            owner,
-            start,
-            len,
-            next,
-            count,
-            end,
-        } => {
-            let signature = Signature {
-                method: key_of(taker, m),
-                owner,
-                start,
-                len,
-                count: wide(count),
-                read: 0,
-                next,
-            };
-            Typed {
-                told: Told::Name(end),
-                signature,
-            }
-        }
-        Reading::Missing => {
-            let signature = unread_signature(taker, m, 0);
-            Typed {
-                told: Told::Missing(Reason::Untold),
-                signature,
-            }
-        }
+    let Some(reading) = read_signature(buf, at, tables, strings, blob, layout, taker, m) else {
+        let told = Err(Unnamed::Missing(Reason::Untold));
+        let signature = unread_signature(taker, m, 0);
+        return Typed { told, signature };
+    };
+    Typed {
+        told: Ok(reading.end),
+        signature: known_behind(reading, taker, m, 0, reading.next),
     }
 }
 
@@ -420,51 +377,27 @@ fn find_signature(
 {
     let mut space = [0u8; 1];
     let read = wide(p);
-    match read_signature(&mut space, 0, tables, strings, blob, layout, taker, m) {
-        Reading::Read {
-            owner,
-            start,
-            len,
-            next,
-            count,
-            ..
-        } => {
-            if count <= p {
-                return Signature {
-                    method: key_of(taker, m),
-                    owner,
-                    start,
-                    len,
-                    count: wide(count),
-                    read,
-                    next,
-                };
-            }
-            let sig = numbers::cut(blob, start, len);
-            let behind = skip_types(
-                &mut space,
-                tables,
-                strings,
-                blob,
-                layout,
-                Owner::Of(owner),
-                Owner::Of(2 * (m + 1) + 1),
-                sig,
-                next,
-                read,
-            );
-            Signature {
-                method: key_of(taker, m),
-                owner,
-                start,
-                len,
-                count: wide(count),
-                read,
-                next: behind,
-            }
-        }
-        Reading::Missing => unread_signature(taker, m, read),
+    let Some(reading) = read_signature(&mut space, 0, tables, strings, blob, layout, taker, m)
+    else {
+        return unread_signature(taker, m, read);
+    };
+    if reading.count <= p {
+        return known_behind(reading, taker, m, read, reading.next);
     }
+    let sig = numbers::cut(blob, reading.start, reading.len);
+    let behind = skip_types(
+        &mut space,
+        tables,
+        strings,
+        blob,
+        layout,
+        Some(reading.owner),
+        Some(2 * (m + 1) + 1),
+        sig,
+        reading.next,
+        read,
+    );
+    known_behind(reading, taker, m, read, behind)
 }
 
 // Whether what is known is about method m, which that class takes.
@@ -492,10 +425,8 @@ fn signature_at(
     ensures { let v = view_in tables.now layout.now strings.now blob.now in
         KnowsSignature v blob.now result × About result taker.0 m × (result.read ≡ p) }
 {
-    if is_about(known, taker, m) {
-        if known.read == wide(p) {
-            return known;
-        }
+    if is_about(known, taker, m) && known.read == wide(p) {
+        return known;
     }
     find_signature(tables, strings, blob, layout, taker, m, p)
 }
@@ -528,13 +459,9 @@ fn read_more(known: Signature, after: usize) -> Signature
     ensures { result ≡ read_more known after }
 {
     Signature {
-        method: known.method,
-        owner: known.owner,
-        start: known.start,
-        len: known.len,
-        count: known.count,
         read: known.read + 1,
         next: after,
+        ..known
     }
 }
 
@@ -561,7 +488,7 @@ fn tell_next_type(
 {
     if known.count <= known.read {
         return Typed {
-            told: Told::NoRow,
+            told: Err(Unnamed::NoRow),
             signature: known,
         };
     }
@@ -573,18 +500,18 @@ fn tell_next_type(
         strings,
         blob,
         layout,
-        Owner::Of(known.owner),
-        Owner::Of(2 * (m + 1) + 1),
+        Some(known.owner),
+        Some(2 * (m + 1) + 1),
         sig,
         known.next,
         LEVELS,
     ) {
-        Rendering::Done(end, next) => Typed {
-            told: Told::Name(end),
+        Ok((end, next)) => Typed {
+            told: Ok(end),
             signature: read_more(known, next),
         },
-        Rendering::Failed(next) => Typed {
-            told: Told::Missing(Reason::Untold),
+        Err(next) => Typed {
+            told: Err(Unnamed::Missing(Reason::Untold)),
             signature: read_more(known, next),
         },
     }
@@ -625,7 +552,7 @@ fn push_param_name(
     layout: &[u32],
     m: usize,
     p: u32,
-) -> Place
+) -> Option<usize>
     requires laid { Laid tables.now layout.now }
     requires m_bound { m < rows_at layout.now columns.param_list }
     ensures { (blob : List ℕ) → Said buf.old at buf.new
@@ -634,11 +561,11 @@ fn push_param_name(
     let first = rows::read_column(tables, layout, columns::PARAM_LIST, m) as usize;
     let place = p as usize;
     if first == 0 {
-        return Place::Missing;
+        return None;
     }
     if rows::count_rows(layout, columns::PARAM_NAME) < first + place {
         let end = buffers::push(buf, at, b"P_");
-        return Place::Next(buffers::push_decimal(buf, end, place));
+        return Some(buffers::push_decimal(buf, end, place));
     }
     match rows::read_string(
         tables,
@@ -647,11 +574,11 @@ fn push_param_name(
         columns::PARAM_NAME,
         first + place - 1,
     ) {
-        Part::Found { start, len } => {
+        Ok(Span { start, len }) => {
             let name = numbers::cut(strings, start, len);
-            Place::Next(buffers::push(buf, at, name))
+            Some(buffers::push(buf, at, name))
         }
-        Part::Absent(_) => Place::Next(buffers::push(buf, at, b"")),
+        Err(_) => Some(buffers::push(buf, at, b"")),
     }
 }
 
@@ -678,7 +605,7 @@ pub fn tell_param_name(
     let signature = signature_of(tables, strings, blob, layout, taker, m, known);
     if signature.count <= wide(p) {
         return Typed {
-            told: Told::NoRow,
+            told: Err(Unnamed::NoRow),
             signature,
         };
     }
@@ -696,31 +623,28 @@ fn pass_by(
     m: usize,
     class: ClassNumber,
     steps: u64,
-) -> Steps
+) -> Option<u64>
     requires laid { Laid tables.now layout.now }
     requires m_bound { m < rows_at layout.now columns.method_signature }
     ensures { let v = view_in tables.now layout.now strings.now blob.now in
         Takes (read_steps v m class.0) steps result }
 {
     let index = rows::read_column(tables, layout, columns::METHOD_SIGNATURE, m);
-    match heaps::get_blob(blob, index as usize) {
-        Part::Found { start, len } => {
-            let sig = numbers::cut(blob, start, len);
-            let owner = classes::owner_of(class);
-            let passed = passing::pass_signature(
-                tables,
-                strings,
-                blob,
-                layout,
-                Owner::Of(owner),
-                Owner::Of(2 * (m + 1) + 1),
-                sig,
-                steps,
-            );
-            passing::steps_left(passed)
-        }
-        Part::Absent(_) => Steps::Left(steps),
-    }
+    let Ok(Span { start, len }) = heaps::get_blob(blob, index as usize) else {
+        return Some(steps);
+    };
+    let sig = numbers::cut(blob, start, len);
+    let passed = passing::pass_signature(
+        tables,
+        strings,
+        blob,
+        layout,
+        Some(classes::owner_of(class)),
+        Some(2 * (m + 1) + 1),
+        sig,
+        steps,
+    );
+    passing::steps_left(passed)
 }
 
 // What the readings of method m's signature take of the steps, where that class takes the method: those of all classes that read it by the
@@ -733,7 +657,7 @@ pub fn pass_readings(
     taker: ClassNumber,
     m: usize,
     steps: u64,
-) -> Steps
+) -> Option<u64>
     requires laid { Laid tables.now layout.now }
     requires m_bound { m < rows_at layout.now columns.method_signature }
     ensures { let v = view_in tables.now layout.now strings.now blob.now in
@@ -742,27 +666,14 @@ pub fn pass_readings(
     let alone = is_read_once(layout);
     let mut class = first_reader(tables, layout, taker, m);
     let mut have = steps;
-    loop {
-        match next_in_mode(tables, layout, m, class) {
-            ClassReader::By(reader, after) => {
-                match pass_by(tables, strings, blob, layout, m, reader, have) {
-                    Steps::Left(left) => {
-                        if alone {
-                            return Steps::Left(left);
-                        }
-                        have = left;
-                        class = after;
-                    }
-                    Steps::Spent => {
-                        return Steps::Spent;
-                    }
-                }
-            }
-            ClassReader::Nobody => {
-                return Steps::Left(have);
-            }
+    while let Some((reader, after)) = next_in_mode(tables, layout, m, class) {
+        have = pass_by(tables, strings, blob, layout, m, reader, have)?;
+        if alone {
+            return Some(have);
         }
+        class = after;
     }
+    Some(have)
 }
 
 // Whether each method that a class takes is known to be read at most once.
@@ -771,10 +682,7 @@ pub fn is_read_once(layout: &[u32]) -> bool
     ensures { let l = layout.now in
         ((tables strings blob : List ℕ) → result ≡ ((view_in tables l strings blob).taker || is_marked l columns.method_list)) }
 {
-    if rows::is_taker(layout) {
-        return true;
-    }
-    rows::is_marked(layout, columns::METHOD_LIST)
+    rows::is_taker(layout) || rows::is_marked(layout, columns::METHOD_LIST)
 }
 
 // Whether so many steps surely suffice for the readings of method m, whichever class takes it, as far as the bytes of its signature show
@@ -789,11 +697,8 @@ pub fn surely_fits(tables: &[u8], blob: &[u8], layout: &[u32], m: usize, steps: 
         return false;
     }
     let index = rows::read_column(tables, layout, columns::METHOD_SIGNATURE, m);
-    match heaps::get_blob(blob, index as usize) {
-        Part::Found { start, len } => {
-            let sig = numbers::cut(blob, start, len);
-            passing::surely_suffices(sig, steps)
-        }
-        Part::Absent(_) => true,
-    }
+    let Ok(Span { start, len }) = heaps::get_blob(blob, index as usize) else {
+        return true;
+    };
+    passing::surely_suffices(numbers::cut(blob, start, len), steps)
 }

@@ -2,10 +2,10 @@
 -- Assumes nothing.
 use mathlib.Core.Path.{◌≡◌, refl, sym, ap, ap₂, ◌∙◌}
 use mathlib.Core.List.{List, [], ◌∷◌}
-use mathlib.Core.Logic.{◌⊎◌, ⊎_elim}
+use mathlib.Core.Logic.{⊎_elim}
 use Prim.Native.Nat.{ℕ, zero, suc, ◌+◌, ◌-◌, ◌≤◌, ◌<◌}
 use native.Mathlib.Omega.{arith}
-use borrow.Author.Tests.{eq-eqb, ne_eqb, le-leb, lt-leb}
+use borrow.Author.Tests.{ne_eqb, le-leb, lt-leb}
 use Rattle.numbers.specs.Lists.{tabulate}
 use Rattle.layouts.specs.Kinds.{method_def}
 use Rattle.record.specs.Columns.{method_list}
@@ -21,15 +21,11 @@ use Rattle.methods.specs.Ranges.{RangeOf}
 
 -- ---- What a class takes
 
-pub takes_none : (col left : ℕ) → col ≡ 0 → left ≡ takes col left
-unfolding takes
-takes_none col left h = rw (eq-eqb col 0 h)
-
-pub takes-rest : (col left : ℕ) {first : ℕ} → (col ≡ 0 → ⊥) → first ≡ col - 1 → first ≤ left → first ≡ takes col left
+takes-rest : (col left : ℕ) {first : ℕ} → (col ≡ 0 → ⊥) → first ≡ col - 1 → first ≤ left → first ≡ takes col left
 unfolding takes
 takes-rest col left h e k = rw (ne_eqb col 0 h, ← e, le-leb _ left k)
 
-pub takes-past : (col left : ℕ) {first : ℕ} → (col ≡ 0 → ⊥) → first ≡ col - 1 → left < first → left ≡ takes col left
+takes-past : (col left : ℕ) {first : ℕ} → (col ≡ 0 → ⊥) → first ≡ col - 1 → left < first → left ≡ takes col left
 unfolding takes
 takes-past col left h e k = rw (ne_eqb col 0 h, ← e, lt-leb _ left k)
 

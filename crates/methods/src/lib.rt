@@ -22,14 +22,14 @@ pub struct Range {
 }
 
 // How many methods are left once a class with this MethodList column has taken its own.
+#[tactic(auto, unfolding(record::specs::Methods::takes))]
 fn take_from(column: u32, left: usize) -> usize
     ensures { result ≡ takes column left }
 {
     if column == 0 {
         return left;
     }
-    let first = wide(column - 1);
-    if first <= left { first } else { left }
+    wide(column - 1).min(left)
 }
 
 // How many methods the classes after a TypeDef row have left, taken class by class.
@@ -39,13 +39,10 @@ fn scan_left(tables: &[u8], layout: &[u32], row: usize) -> usize
     ensures { (strings blob : List ℕ) → result ≡ left_after (view_in tables.now layout.now strings blob) (row - 1) }
 {
     let mut left = rows::count_rows(layout, columns::METHOD_NAME);
-    let mut r = rows::count_rows(layout, columns::METHOD_LIST);
-    while row < r {
-        r -= 1;
-        left = take_from(
-            rows::read_column(tables, layout, columns::METHOD_LIST, r),
-            left,
-        );
+    let n = rows::count_rows(layout, columns::METHOD_LIST);
+    for r in (row..n).rev() {
+        let first = rows::read_column(tables, layout, columns::METHOD_LIST, r);
+        left = take_from(first, left);
     }
     left
 }
@@ -56,12 +53,12 @@ fn left_after(tables: &[u8], layout: &[u32], row: usize) -> usize
     requires row_nonzero { (0 < row) × (row ≤ rows_at layout.now columns.method_list) }
     ensures { (strings blob : List ℕ) → result ≡ left_after (view_in tables.now layout.now strings blob) (row - 1) }
 {
-    if rows::is_marked(layout, columns::METHOD_LIST) {
-        if row < rows::count_rows(layout, columns::METHOD_LIST) {
-            let next = rows::read_column(tables, layout, columns::METHOD_LIST, row);
-            if next != 0 {
-                return take_from(next, rows::count_rows(layout, columns::METHOD_NAME));
-            }
+    if rows::is_marked(layout, columns::METHOD_LIST)
+        && row < rows::count_rows(layout, columns::METHOD_LIST)
+    {
+        let next = rows::read_column(tables, layout, columns::METHOD_LIST, row);
+        if next != 0 {
+            return take_from(next, rows::count_rows(layout, columns::METHOD_NAME));
         }
     }
     scan_left(tables, layout, row)

@@ -23,10 +23,8 @@ use Rattle.heaps.specs.Lookups.{text_of}
 use Rattle.classes.specs.Numbering.{row_of}
 use Rattle.classes.specs.declared.ClassNumber.{ClassNumber}
 use Rattle.classes.specs.declared.TypeDefRow.{TypeDefRow}
-use Rattle.header.specs.Stream.{opened}
+use Rattle.header.specs.Stream.{Opened, opened}
 use Rattle.header.specs.declared.Options.{Options}
-use Rattle.header.specs.declared.Opened.{Opened}
-use Rattle.header.specs.declared.Opened.TheVariants.{Refused, Ready}
 use Rattle.places.proofs.Laws.{row_low, row_is}
 use Rattle.record.specs.View.{View, view, view_of}
 use Rattle.record.specs.Names.{classes, class_full_name, named, class_named}
@@ -39,8 +37,8 @@ use Rattle.rows.proofs.Laws.{rows-narrow}
 use Rattle.rows.proofs.Classes.{classes-are}
 use Rattle.name_section.specs.Section.{alignment, slot, section, offsets_from, names_of, names, most_offset, fits, section_reply, section_buffer, offset_buffer, Sectioned}
 use Rattle.name_section.specs.declared.Section.{Section}
-use Rattle.name_section.specs.declared.Section.TheVariants.{Written, No}
 use Rattle.name_section.proofs.Slots.{section-more, section-grows, offset_at, offsets-length, narrow-all, narrow-not, fit_all, fit-bytes, fit-offsets}
+use Rattle.std.specs.Prelude.{Result, Ok, Err}
 
 -- ---- The names of the record, by number
 
@@ -195,7 +193,7 @@ module _ {l : List (Option Text)} {s₀ o₀ s o : List ℕ} {c at : ℕ} (f : F
         (narrow-all (offsets_from 0 l) (λ i h. f.small i (omega (arith, offsets-length 0 l))))
 
     pub fill_done : {n : ℕ} {s₁ o₁ : List ℕ} → n ≡ length l → n ≤ length o → s₁ ≡ cleared s at → o₁ ≡ cleared o n
-        → Sectioned (value l) s₀ o₀ (Written at n) s₁ o₁
+        → Sectioned (value l) s₀ o₀ (Ok (record { bytes = at; classes = n })) s₁ o₁
     unfolding section_reply section_buffer offset_buffer cleared
     fill_done {n} e room is are =
         let size : at ≡ length (section l) = omega (arith, wrote-all.place, f.inside) in
@@ -217,13 +215,13 @@ module _ {l : List (Option Text)} {s₀ o₀ s o : List ℕ} {c at : ℕ} (f : F
 
 -- ---- The names, by what opening found
 
-module _ (o : Options) (t strings blob : List ℕ) {s p s' p' : List ℕ} {r : Section} where
-  pub of-refused : (why : Refusal) → (opened o t).answer ≡ Refused why → Sectioned (refused_by why) s p r s' p'
+module _ (o : Options) (t strings blob : List ℕ) {s p s' p' : List ℕ} {r : Result Section Refusal} where
+  pub of-refused : (why : Refusal) → (opened o t).answer ≡ Err why → Sectioned (refused_by why) s p r s' p'
       → Sectioned (names (view o t strings blob)) s p r s' p'
   unfolding view_of
   of-refused why e x = rw e x
 
-  pub of-ready : (opened o t).answer ≡ Ready → Sectioned (value (names_of (class_record (view o t strings blob)))) s p r s' p'
+  pub of-ready : (opened o t).answer ≡ (Ok tt) → Sectioned (value (names_of (class_record (view o t strings blob)))) s p r s' p'
       → Sectioned (names (view o t strings blob)) s p r s' p'
   unfolding view_of
   of-ready e x =
@@ -250,12 +248,12 @@ no-tail o n h =
 
 -- ---- A call that is refused
 
-pub refuse-all : {s o s₁ o₁ : List ℕ} (why : Refusal) → s₁ ≡ cleared s 0 → o₁ ≡ cleared o 0 → Sectioned (refused_by why) s o (No why) s₁ o₁
+pub refuse-all : {s o s₁ o₁ : List ℕ} (why : Refusal) → s₁ ≡ cleared s 0 → o₁ ≡ cleared o 0 → Sectioned (refused_by why) s o (Err why) s₁ o₁
 unfolding section_reply section_buffer offset_buffer cleared
 refuse-all why e f = record { reply = refl; bytes = e ∙ rw sub-zero refl; places = f ∙ rw sub-zero refl }
 
 -- The names do not fit.
-pub unfit : {l : List (Option Text)} {s₀ o₀ s o s₁ o₁ : List ℕ} {r : Section} → length s ≡ length s₀ → length o ≡ length o₀
+pub unfit : {l : List (Option Text)} {s₀ o₀ s o s₁ o₁ : List ℕ} {r : Result Section Refusal} → length s ≡ length s₀ → length o ≡ length o₀
     → fits l (length s₀) (length o₀) ≡ false → Sectioned (refused_by BufferTooSmall) s o r s₁ o₁ → Sectioned (value l) s₀ o₀ r s₁ o₁
 unfolding section_reply section_buffer offset_buffer
 unfit e f differ x =

@@ -14,8 +14,6 @@ use Rattle.buffers.specs.declared.Refusal.TheVariants.{BufferTooSmall}
 use Rattle.buffers.specs.declared.Reason.{Reason}
 use Rattle.heaps.specs.Lookups.{before, text_of}
 use Rattle.header.specs.declared.Options.{Options}
-use Rattle.header.specs.declared.Opened.{Opened}
-use Rattle.header.specs.declared.Opened.TheVariants.{Refused, Ready}
 use Rattle.record.specs.Missing.{or_default}
 use Rattle.record.specs.View.{view}
 use Rattle.record.specs.Names.{classes, class_full_name, named, class_named}
@@ -25,6 +23,8 @@ use Rattle.name_section.specs.Section.{slot, section, offsets_from, names_of, fi
 use Rattle.name_section.specs.Claims.{ReadsName}
 use Rattle.name_section.proofs.Slots.{offset_at, offsets-length}
 use Rattle.name_section.proofs.Zeroless.{Nonzero, Clean, names-clean}
+use Rattle.std.specs.Prelude.{Ok, Err}
+use Rattle.header.specs.Stream.{Opened}
 
 -- A text without zeros in front of a zero.
 front : (t z : Text) → Nonzero t → take (before 0 (t ++ 0 ∷ z)) (t ++ 0 ∷ z) ≡ t
@@ -75,8 +75,8 @@ record-clean o tables strings blob i (suc n) =
     (clean-named (class_full_name (view o tables strings blob) (i + 2)) _ (names-clean o tables strings blob (i + 2)), record-clean o tables strings blob (i + 1) n)
 
 ready-names : (a : Opened) (k : List Class) {l : List (Option Text)} → (ready a ⟫ (λ _. value k) ⟫ (λ (l : List Class). value (names_of l))) ≡ value l → names_of k ≡ l
-ready-names (Refused why) k e = let z : ◌≡◌ {A = ℕ} 0 1 = cc in absurd (omega arith)
-ready-names Ready k e = cc
+ready-names (Err why) k e = let z : ◌≡◌ {A = ℕ} 0 1 = cc in absurd (omega arith)
+ready-names (Ok tt) k e = cc
 
 -- A section was written, so the names fit.
 written-fits : (l : List (Option Text)) (room places : ℕ) {u : Used} → section_reply (value l) room places ≡ value u → fits l room places ≡ true

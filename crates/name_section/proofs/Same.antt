@@ -8,7 +8,6 @@ use lib.ListN.{length, get_or, replicate}
 use Rattle.numbers.proofs.Pick.{pick}
 use Rattle.buffers.specs.Texts.{Text}
 use Rattle.buffers.specs.Replies.{Answer, refused, value, refused_by}
-use Rattle.buffers.specs.declared.Reply.TheVariants.{No as Refused}
 use Rattle.buffers.proofs.Replies.{reply-same}
 use Rattle.header.specs.declared.Options.{Options}
 use Rattle.record.specs.View.{view}
@@ -16,21 +15,22 @@ use Rattle.record.proofs.Rearrangement.{view-same}
 use Rattle.name_section.specs.Section.{slot, offsets_from, names, fits, Used, section_says, section_reply, section_buffer, offset_buffer, Sectioned}
 use Rattle.name_section.specs.Claims.{RunAlike, SameSections, SectionSurvives, OffsetsAligned}
 use Rattle.name_section.specs.declared.Section.{Section}
-use Rattle.name_section.specs.declared.Section.TheVariants.{Written, No}
+use Rattle.buffers.specs.declared.Refusal.{Refusal}
 use Rattle.name_section.proofs.Slots.{aligned}
+use Rattle.std.specs.Prelude.{Result, Ok, Err}
 
 -- A reply is known by what it says.
-says_same : (r r₁ : Section) → section_says r₁ ≡ section_says r → r₁ ≡ r
-says_same (Written b c) (Written b₁ c₁) e =
-    let u : ◌≡◌ {A = Used} (record { bytes = b₁; classes = c₁ }) (record { bytes = b; classes = c }) = cc in
-    ap₂ Written (ap (λ (x : Used). x.bytes) u) (ap (λ (x : Used). x.classes) u)
-says_same (Written b c) (No why) e = let z : ◌≡◌ {A = ℕ} 0 1 = cc in absurd (omega arith)
-says_same (No why) (Written b c) e = let z : ◌≡◌ {A = ℕ} 0 1 = cc in absurd (omega arith)
-says_same (No why) (No why₁) e =
+says_same : (r r₁ : Result Section Refusal) → section_says r₁ ≡ section_says r → r₁ ≡ r
+says_same (Ok s) (Ok s₁) e =
+    let u : ◌≡◌ {A = Used} (record { bytes = s₁.bytes; classes = s₁.classes }) (record { bytes = s.bytes; classes = s.classes }) = cc in
+    ap {B = Result Section Refusal} (λ (x : Used). Ok (record { bytes = x.bytes; classes = x.classes })) u
+says_same (Ok s) (Err why) e = let z : ◌≡◌ {A = ℕ} 0 1 = cc in absurd (omega arith)
+says_same (Err why) (Ok s) e = let z : ◌≡◌ {A = ℕ} 0 1 = cc in absurd (omega arith)
+says_same (Err why) (Err why₁) e =
     let same : ◌≡◌ {A = Answer ℕ} (refused_by why₁) (refused_by why) = cc in
-    let is = reply-same (Refused why₁) (Refused why) same in
+    let is = reply-same (Err why₁) (Err why) same in
     let w : why₁ ≡ why = cc in
-    ap No w
+    ap Err w
 
 -- Two runs of one answer.
 alike : (o : Options) (t u strings blob : List ℕ) → names (view o u strings blob) ≡ names (view o t strings blob) → RunAlike o t u strings blob

@@ -8,8 +8,7 @@ use lib.Dec.{eqb, leb, ltb}
 use lib.ListN.{length, take, drop}
 use Rattle.numbers.proofs.Pick.{pick}
 use Rattle.buffers.specs.Texts.{Text}
-use Rattle.heaps.specs.Lookups.{before, string_at, part_name, name, text_of, string}
-use Rattle.heaps.specs.declared.Part.{Part}
+use Rattle.heaps.specs.Lookups.{Part, before, string_at, part_name, name, text_of, string}
 use Rattle.layouts.specs.declared.IndexSizes.{IndexSizes}
 use Rattle.record.specs.Missing.{over, and_then}
 use Rattle.record.specs.Columns.{type_name, type_namespace, nested, enclosing}

@@ -1,9 +1,10 @@
 -- The type-name section (2026-14): a slot for each class of the record, in order, and where each slot begins. The entire reply and both
 -- entire buffers, by the names of the classes and the buffers' lengths alone.
-use Rattle.std.specs.Prelude.{◌≡◌, Bool, true, cond, ◌&&◌, List, [], ◌∷◌, ◌++◌, map, ℕ, ◌+◌, ◌-◌, ◌%◌, leb, length, replicate}
+use Rattle.std.specs.Prelude.{◌≡◌, Bool, true, cond, ◌&&◌, List, [], ◌∷◌, ◌++◌, map, ℕ, ◌+◌, ◌-◌, ◌%◌, leb, length, replicate, Result, Ok, Err}
 use Rattle.std.proofs.Math.Option.{Option}
 use Rattle.buffers.specs.Texts.{Text}
 use Rattle.buffers.specs.Replies.{Answer, refused, refused_by, value}
+use Rattle.buffers.specs.declared.Refusal.{Refusal}
 use Rattle.buffers.specs.declared.Refusal.TheVariants.{BufferTooSmall}
 use Rattle.heaps.specs.Lookups.{text_of}
 use Rattle.record.specs.Missing.{or_default}
@@ -11,7 +12,6 @@ use Rattle.record.specs.View.{View}
 use Rattle.record.specs.Record.{Class}
 use Rattle.record.specs.Answers.{◌⟫◌, the_classes}
 use Rattle.name_section.specs.declared.Section.{Section}
-use Rattle.name_section.specs.declared.Section.TheVariants.{Written, No}
 
 -- A slot's length is a multiple of this.
 abbrev pub alignment : ℕ
@@ -55,9 +55,9 @@ pub record Used : Type 0 where
   pub bytes : ℕ
   pub classes : ℕ
 
-abbrev pub section_says : Section → Answer Used
-section_says (Written bytes classes) = value (record { bytes = bytes; classes = classes })
-section_says (No why) = refused_by why
+abbrev pub section_says : Result Section Refusal → Answer Used
+section_says (Ok s) = value (record { bytes = s.bytes; classes = s.classes })
+section_says (Err why) = refused_by why
 
 -- The reply of the call, by the names and the lengths of the two buffers.
 unfoldable pub section_reply : Answer (List (Option Text)) → ℕ → ℕ → Answer Used
@@ -77,7 +77,7 @@ offset_buffer (value l) room places =
     cond (fits l room places) (offsets_from 0 l ++ replicate (places - length l) 0) (replicate places 0)
 
 -- The promise of the call: from the buffers s and o to s' and o'. Of those before it reads the lengths and nothing else.
-pub record Sectioned (a : Answer (List (Option Text))) (s o : List ℕ) (r : Section) (s' o' : List ℕ) : Type 0 where
+pub record Sectioned (a : Answer (List (Option Text))) (s o : List ℕ) (r : Result Section Refusal) (s' o' : List ℕ) : Type 0 where
   pub reply : section_says r ≡ section_reply a (length s) (length o)
   pub bytes : s' ≡ section_buffer a (length s) (length o)
   pub places : o' ≡ offset_buffer a (length s) (length o)

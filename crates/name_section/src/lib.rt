@@ -14,16 +14,13 @@ ghost use Rattle.rows.specs.Columns as columns;
 ghost use Rattle.rows.specs.Layout.{Laid, view_in};
 ghost use Rattle.name_section.specs.Section.{alignment, slot, names, names_of, Sectioned};
 
-use buffers::{Place, Refusal};
+use buffers::Refusal;
 use classes::ClassNumber;
-use header::{Opened, Options};
+use header::Options;
 use rows::columns;
 
 // A slot's length is a multiple of this.
 const ALIGNMENT: usize = 4;
-
-// The last place at which a slot may begin: an offset has 32 bits.
-const MOST_OFFSET: usize = 0xFFFF_FFFF;
 
 // The most rows of a table under the base's limit.
 const MOST_ROWS: usize = 15_000;
@@ -32,11 +29,11 @@ const MOST_ROWS: usize = 15_000;
 // is higher, what these do not hold is searched for.
 const WORDS: usize = columns::SIZE + 2 * MOST_ROWS + 2;
 
-// The bytes of the section and the number of classes; or why there is none.
-#[derive(Clone, Copy)]
-pub enum Section {
-    Written { bytes: usize, classes: usize },
-    No(Refusal),
+// The bytes of the section and the number of classes.
+#[derive(Clone, Copy, Debug, PartialEq, Eq)]
+pub struct Section {
+    pub bytes: usize,
+    pub classes: usize,
 }
 
 // How many zeros a slot has behind a name of that length: one of the name's own, and the fewest more that reach a multiple.
@@ -71,15 +68,13 @@ fn push_slot(
         section.new result }
 {
     let row = classes::row_of(class);
-    match names::push_class_name(section, at, tables, strings, layout, row) {
-        Place::Next(end) => {
-            if section.len() < end {
-                return end;
-            }
-            push_zeros(section, end, zeros_behind(end - at))
-        }
-        Place::Missing => push_zeros(section, at, ALIGNMENT),
+    let Some(end) = names::push_class_name(section, at, tables, strings, layout, row) else {
+        return push_zeros(section, at, ALIGNMENT);
+    };
+    if section.len() < end {
+        return end;
     }
+    push_zeros(section, end, zeros_behind(end - at))
 }
 
 // Zero every offset from a place on.
@@ -93,12 +88,12 @@ fn clear_offsets(offsets: &mut [u32], from: usize)
 }
 
 // End a call that is refused: both buffers are zero throughout.
-fn refuse(section: &mut [u8], offsets: &mut [u32], why: Refusal) -> Section
+fn refuse(section: &mut [u8], offsets: &mut [u32], why: Refusal) -> Result<Section, Refusal>
     ensures { Sectioned (refused_by why) section.old offsets.old result section.new offsets.new }
 {
     buffers::clear_from(section, 0);
     clear_offsets(offsets, 0);
-    Section::No(why)
+    Err(why)
 }
 
 // Every slot and every offset, in one pass over the classes, and zeros behind them.
@@ -108,7 +103,7 @@ fn write_slots(
     layout: &[u32],
     section: &mut [u8],
     offsets: &mut [u32],
-) -> Section
+) -> Result<Section, Refusal>
     requires { Laid tables.now layout.now }
     ensures { (blob : List ℕ) → Sectioned
         (value (names_of (class_record (view_in tables.now layout.now strings.now blob))))
@@ -119,29 +114,20 @@ fn write_slots(
         return refuse(section, offsets, Refusal::BufferTooSmall);
     }
     let mut at = 0;
-    let mut c = 0;
-    while c < classes {
-        let begin = at;
-        if MOST_OFFSET < begin {
+    for c in 0..classes {
+        // An offset has 32 bits.
+        let Ok(offset) = u32::try_from(at) else {
             return refuse(section, offsets, Refusal::BufferTooSmall);
-        }
-        at = push_slot(
-            section,
-            begin,
-            tables,
-            strings,
-            layout,
-            ClassNumber(c as u32),
-        );
+        };
+        at = push_slot(section, at, tables, strings, layout, ClassNumber(c as u32));
         if section.len() < at {
             return refuse(section, offsets, Refusal::BufferTooSmall);
         }
-        offsets[c] = begin as u32;
-        c += 1;
+        offsets[c] = offset;
     }
     buffers::clear_from(section, at);
     clear_offsets(offsets, classes);
-    Section::Written { bytes: at, classes }
+    Ok(Section { bytes: at, classes })
 }
 
 // The section of three streams, and the offsets of its slots. The streams are opened once, and their classes gone through once.
@@ -152,17 +138,15 @@ pub fn name_section(
     options: Options,
     section: &mut [u8],
     offsets: &mut [u32],
-) -> Section
+) -> Result<Section, Refusal>
     ensures { let v = view options tables.now strings.now blob.now in
         Sectioned (names v) section.old offsets.old result section.new offsets.new }
 {
     let mut layout = [0u32; columns::SIZE];
-    match opening::open(tables, options, &mut layout) {
-        Opened::Refused(why) => refuse(section, offsets, why),
-        Opened::Ready => {
-            let mut work = [0u32; WORDS];
-            holding::hold_nests(&mut work, tables, &layout);
-            write_slots(tables, strings, &work, section, offsets)
-        }
+    if let Err(why) = opening::open(tables, options, &mut layout) {
+        return refuse(section, offsets, why);
     }
+    let mut work = [0u32; WORDS];
+    holding::hold_nests(&mut work, tables, &layout);
+    write_slots(tables, strings, &work, section, offsets)
 }

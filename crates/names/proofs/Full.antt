@@ -14,10 +14,8 @@ use Rattle.buffers.specs.Texts.{Text}
 use Rattle.buffers.specs.Writes.{Kept, Wrote, Said, written}
 use Rattle.buffers.proofs.Writing.{wrote_then}
 use Rattle.backwards.proofs.Laws.{wrote-over-kept}
-use Rattle.heaps.specs.Lookups.{before, string_at, string, is_there}
+use Rattle.heaps.specs.Lookups.{Part, before, string_at, string, is_there}
 use Rattle.buffers.specs.declared.Reason.{Reason}
-use Rattle.heaps.specs.declared.Part.{Part}
-use Rattle.heaps.specs.declared.Part.TheVariants.{Found, Absent}
 use Rattle.heaps.proofs.Lookups.{string-within, string-some, string-none}
 use Rattle.layouts.specs.Kinds.{type_ref}
 use Rattle.tables.specs.Extents.{kept_rows}
@@ -30,6 +28,7 @@ use Rattle.rows.specs.Layout.{options_in, header_in, rows_at, cell, Laid, view_i
 use Rattle.rows.proofs.Laws.{rows-at}
 use Rattle.names.specs.Naming.{name_in, space_in, dotted, front_in, behind_front}
 use Rattle.names.proofs.Leaves.{over-there, cut-part}
+use Rattle.std.specs.Prelude.{Ok, Err}
 
 -- A name and what stands in front of it.
 whole : (space : Option Text) (m : Text) → full_name space (some m) ≡ some (dotted space ++ m)
@@ -67,14 +66,14 @@ module _ {b b' : List ℕ} {at : ℕ} (t l strings : List ℕ) (r : ℕ) {m m' :
 
 -- A namespace that was looked up.
 module _ {b b' : List ℕ} {at at' : ℕ} {p : Part} where
-  pub dotted-some : (s : Bor (List ℕ)) (i : ℕ) {start n : ℕ} {text : Bor (List ℕ)} → p ≡ string_at s.now i → p ≡ Found start n → CutOf text s start n
+  pub dotted-some : (s : Bor (List ℕ)) (i : ℕ) {start n : ℕ} {text : Bor (List ℕ)} → p ≡ string_at s.now i → p ≡ Ok (record { start = start; len = n }) → CutOf text s start n
       → Wrote b at (text.now ++ 0x2E ∷ []) b' at' → Wrote b at (dotted (string s.now i)) b' at'
   unfolding dotted
   dotted-some s i e f c w =
       let at = sym f ∙ e in
       rw (string-some s.now i at, ← (cut-is _ s _ _ (string-within s.now i at) c).bytes) w
 
-  pub dotted-none : (s : List ℕ) (i : ℕ) {why : Reason} → p ≡ string_at s i → p ≡ Absent why → Wrote b at [] b' at' → Wrote b at (dotted (string s i)) b' at'
+  pub dotted-none : (s : List ℕ) (i : ℕ) {why : Reason} → p ≡ string_at s i → p ≡ Err why → Wrote b at [] b' at' → Wrote b at (dotted (string s i)) b' at'
   unfolding dotted
   dotted-none s i e f w = rw (string-none s i (sym f ∙ e)) w
 
@@ -114,7 +113,7 @@ module _ {t l : List ℕ} (laid : Laid t l) (strings blob : List ℕ) where
       unfolding ref_full_name view_of other_row
       ref-is = rw (ne_eqb r 0 n, lt-ltb (r - 1) (kept_rows (options_in l) (header_in t l) (length t) type_ref) (omega (arith, kept)))
 
-      pub ref-bare : {p : Part} {why : Reason} → p ≡ string_at strings (cell t l columns.ref_name (r - 1)) → p ≡ Absent why
+      pub ref-bare : {p : Part} {why : Reason} → p ≡ string_at strings (cell t l columns.ref_name (r - 1)) → p ≡ Err why
           → ref_full_name (view_in t l strings blob) r ≡ none
       ref-bare e f =
           ref-is
@@ -127,7 +126,7 @@ module _ {t l : List ℕ} (laid : Laid t l) (strings blob : List ℕ) where
           sym (ap is_there ref-is ∙ full-there (string strings (cell t l columns.ref_namespace (r - 1))) (over cut name) ∙ over-there cut name)
 
       pub said-ref : {p : Part} {start len n at at₁ at₂ : ℕ} {b b₁ b₂ : List ℕ} {text : List ℕ}
-          → p ≡ string_at strings (cell t l columns.ref_name (r - 1)) → p ≡ Found start len → n ≡ before 0x60 (part strings start len)
+          → p ≡ string_at strings (cell t l columns.ref_name (r - 1)) → p ≡ Ok (record { start = start; len = len }) → n ≡ before 0x60 (part strings start len)
           → Wrote b at (dotted (string strings (cell t l columns.ref_namespace (r - 1)))) b₁ at₁ → text ≡ part strings start n → Wrote b₁ at₁ text b₂ at₂
           → Said b at b₂ (ref_full_name (view_in t l strings blob) r) (some at₂)
       said-ref {start = start} {len} {n} e f q first c second =

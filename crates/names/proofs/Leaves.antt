@@ -11,10 +11,8 @@ use lib.ListN.{length, take, drop, length-drop}
 use lib.Seq.{length-take-le, take-take}
 use Rattle.numbers.specs.Parts.{part}
 use Rattle.buffers.specs.Texts.{Text}
-use Rattle.heaps.specs.Lookups.{before, string_at, string, is_there}
+use Rattle.heaps.specs.Lookups.{Part, before, string_at, string, is_there}
 use Rattle.buffers.specs.declared.Reason.{Reason}
-use Rattle.heaps.specs.declared.Part.{Part}
-use Rattle.heaps.specs.declared.Part.TheVariants.{Found, Absent}
 use Rattle.heaps.proofs.Lookups.{before-most, string-within, string-some, string-none}
 use Rattle.layouts.specs.Kinds.{type_def}
 use Rattle.tables.specs.Extents.{sizes_in, kept_rows}
@@ -30,27 +28,24 @@ use Rattle.rows.specs.Held.{around}
 use Rattle.rows.proofs.Laws.{rows-at, le-or-lt}
 use Rattle.rows.proofs.Held.{around-low as low, around-other as other, around-out as out, around-in as in_row}
 use Rattle.classes.specs.declared.TypeDefRow.{TypeDefRow}
-use Rattle.names.specs.Naming.{name_text, NameInside, Shows, class_string, name_in, around_in, around_says, LastAround}
-use Rattle.names.specs.declared.Name.{Name}
-use Rattle.names.specs.declared.Name.TheVariants.{At, Missing}
-use Rattle.names.specs.declared.Around.{Around}
-use Rattle.names.specs.declared.Around.TheVariants.{Class, NoClass}
-use Rattle.names.specs.declared.Outer.TheVariants.{Nested, Outermost}
+use Rattle.names.specs.Naming.{Around, Name, name_text, NameInside, Shows, class_string, name_in, around_in, around_says, LastAround}
+use Rattle.std.specs.Prelude.{Some, None, Ok, Err}
+use Rattle.std.specs.Result.{result_ok}
 
 -- What is known of a name that was found.
-pub shown-at : {s : List ℕ} {d : Option Text} {p : Name} {start n : ℕ} → Shows s d p → p ≡ At start n → (d ≡ some (part s start n)) × (start + n ≤ length s)
+pub shown-at : {s : List ℕ} {d : Option Text} {p : Name} {start n : ℕ} → Shows s d p → p ≡ Some (record { start = start; len = n }) → (d ≡ some (part s start n)) × (start + n ≤ length s)
 shown-at {s} h e = (sym h.is ∙ ap (name_text s) e, subst (NameInside s) e h.inside)
 
-pub shown-missing : {s : List ℕ} {d : Option Text} {p : Name} → Shows s d p → p ≡ Missing → d ≡ none
+pub shown-missing : {s : List ℕ} {d : Option Text} {p : Name} → Shows s d p → p ≡ None → d ≡ none
 shown-missing {s} h e = sym h.is ∙ ap (name_text s) e
 
 -- A missing text.
-pub shows-none : {s : List ℕ} {d : Option Text} → d ≡ none → Shows s d Missing
+pub shows-none : {s : List ℕ} {d : Option Text} → d ≡ none → Shows s d None
 shows-none e = record { is = sym e; inside = tt }
 
 -- The string of a class, by the row that is asked for.
 module _ (t l strings : List ℕ) (c r : ℕ) where
-  pub class_low : r < 2 → Shows strings (class_string t l strings c r) Missing
+  pub class_low : r < 2 → Shows strings (class_string t l strings c r) None
   unfolding class_string
   class_low h = shows-none (rw (lt-ltb r 2 h))
 
@@ -58,7 +53,7 @@ module _ (t l strings : List ℕ) (c r : ℕ) where
     kept : rows_at l c ≡ kept_rows (options_in l) (header_in t l) (length t) type_def
     kept = rows-at laid c k ∙ ap (kept_rows (options_in l) (header_in t l) (length t)) e
 
-    pub class-past : rows_at l c < r → Shows strings (class_string t l strings c r) Missing
+    pub class-past : rows_at l c < r → Shows strings (class_string t l strings c r) None
     unfolding class_string other_row
     class-past p =
         shows-none (rw (le-ltb r 2 h, le-ltb (r - 1) (kept_rows (options_in l) (header_in t l) (length t) type_def) (omega (arith, kept))))
@@ -71,13 +66,18 @@ module _ (t l strings : List ℕ) (c r : ℕ) where
 
     -- The string was looked up.
     module _ (n : r ≤ rows_at l c) {p : Part} (q : p ≡ string_at strings (cell t l c (r - 1))) where
-      pub class-found : {start len : ℕ} → p ≡ Found start len → Shows strings (class_string t l strings c r) (At start len)
+      pub class-found : {start len : ℕ} → p ≡ Ok (record { start = start; len = len }) → Shows strings (class_string t l strings c r) (Some (record { start = start; len = len }))
       class-found f =
           let at = sym f ∙ q in
           record { is = sym (there n ∙ string-some strings (cell t l c (r - 1)) at); inside = string-within strings (cell t l c (r - 1)) at }
 
-      pub class-absent : {why : Reason} → p ≡ Absent why → Shows strings (class_string t l strings c r) Missing
+      pub class-absent : {why : Reason} → p ≡ Err why → Shows strings (class_string t l strings c r) None
       class-absent f = shows-none (there n ∙ string-none strings (cell t l c (r - 1)) (sym f ∙ q))
+
+    pub class-looked : (n : r ≤ rows_at l c) (p : Part) → p ≡ string_at strings (cell t l c (r - 1)) → {o : Name} → o ≡ result_ok p
+        → Shows strings (class_string t l strings c r) o
+    class-looked n (Ok span) q f = rw f (class-found n q refl)
+    class-looked n (Err why) q f = rw f (class-absent n q refl)
 
 -- The name of a class is the string of its name column, cut at the first back-quote.
 module _ (t l strings : List ℕ) (r : ℕ) where
@@ -91,7 +91,7 @@ module _ (t l strings : List ℕ) (r : ℕ) where
       go none = refl
       go (some bytes) = refl
 
-  pub own-missing : {p : Name} → Shows strings (class_string t l strings columns.type_name r) p → p ≡ Missing → Shows strings (name_in t l strings r) Missing
+  pub own-missing : {p : Name} → Shows strings (class_string t l strings columns.type_name r) p → p ≡ None → Shows strings (name_in t l strings r) None
   own-missing s e = shows-none (own_name ∙ ap (over cut) (sym s.is ∙ ap (name_text strings) e))
 
 -- Whether it is there is whether the string is.
@@ -122,8 +122,8 @@ cut-part s start len n inside e =
     let most = before-most 0x60 (part s start len) in
     (ap (λ (k : ℕ). take k (part s start len)) (sym e) ∙ take-take n len (drop start s) (omega arith), omega arith)
 
-pub own_at : (t l strings : List ℕ) (r : ℕ) {p : Name} {start len n : ℕ} → Shows strings (class_string t l strings columns.type_name r) p → p ≡ At start len
-    → n ≡ before 0x60 (part strings start len) → Shows strings (name_in t l strings r) (At start n)
+pub own_at : (t l strings : List ℕ) (r : ℕ) {p : Name} {start len n : ℕ} → Shows strings (class_string t l strings columns.type_name r) p → p ≡ Some (record { start = start; len = len })
+    → n ≡ before 0x60 (part strings start len) → Shows strings (name_in t l strings r) (Some (record { start = start; len = n }))
 own_at t l strings r {start = start} {len} {n} s e f =
     let short = cut-part strings start len n (subst (NameInside strings) e s.inside) f in
     record {
@@ -164,11 +164,11 @@ module _ (t l : List ℕ) (end r : ℕ) where
   pub look-start : Looking t l end r end
   look-start = record { within = omega arith; none-acts = λ j lo hi. absurd (omega arith) }
 
-  pub look-end : {i : ℕ} → Looking t l end r i → i ≤ 0 → LastAround t l end r Outermost
+  pub look-end : {i : ℕ} → Looking t l end r i → i ≤ 0 → LastAround t l end r None
   look-end k h j hi = k.none-acts j (omega arith) hi
 
   module _ {i : ℕ} (k : Looking t l end r i) (z : 0 < i) {a : Around} (says : around_says a ≡ around_in t l (i - 1) r) where
-    pub look-on : a ≡ NoClass → Looking t l end r (i - 1)
+    pub look-on : a ≡ None → Looking t l end r (i - 1)
     look-on e =
         record {
           within = omega (arith, k.within);
@@ -177,5 +177,5 @@ module _ (t l : List ℕ) (end r : ℕ) where
               (λ m. let one : i - 1 ≡ j = omega arith in sym (ap around_says e) ∙ says ∙ ap (λ (x : ℕ). around_in t l x r) one) (le-or-lt i j);
         }
 
-    pub look-found : {e : TypeDefRow} → a ≡ Class e → LastAround t l end r (Nested e (i - 1))
+    pub look-found : {e : TypeDefRow} → a ≡ Some e → LastAround t l end r (Some (e, (i - 1)))
     look-found e = (omega (arith, k.within), sym (ap around_says e) ∙ says, λ j lo hi. k.none-acts j (omega arith) hi)

@@ -11,21 +11,20 @@ use Rattle.classes.specs.declared.TypeDefRow.{TypeDefRow}
 use Rattle.rows.specs.Columns as columns
 use Rattle.rows.specs.Layout.{Laid, rows_at, cell, held_start, held_length, held_at}
 use Rattle.rows.specs.Held.{around, LastIs, Nested}
-use Rattle.names.specs.Naming.{around_in, LastAround}
-use Rattle.names.specs.declared.Outer.{Outer}
-use Rattle.names.specs.declared.Outer.TheVariants.{Nested as Around, Outermost}
+use Rattle.names.specs.Naming.{Outer, around_in, LastAround}
 use Rattle.names.proofs.Leaves.{around-is}
+use Rattle.std.specs.Prelude.{Some, None}
 
 -- A link answers the search for it.
 module _ (t l : List ℕ) {end r x : ℕ} (h : LastIs (cell t l columns.nested) (cell t l columns.enclosing) end r x) where
-  pub last_found : 0 < x → {e : TypeDefRow} {i : ℕ} → i ≡ x - 1 → e.0 ≡ cell t l columns.enclosing i → LastAround t l end r (Around e i)
+  pub last_found : 0 < x → {e : TypeDefRow} {i : ℕ} → i ≡ x - 1 → e.0 ≡ cell t l columns.enclosing i → LastAround t l end r (Some (e, i))
   last_found p {e} {i} a b = (
     omega (arith, h.within),
     ap some (b ∙ ap (cell t l columns.enclosing) a) ∙ h.found p ∙ around-is t l (x - 1) r ∙ ap (λ (k : ℕ). around_in t l k r) (sym a),
     λ j lo hi. h.behind j (omega arith) hi ∙ around-is t l j r,
   )
 
-  pub last-missed : x ≡ 0 → LastAround t l end r Outermost
+  pub last-missed : x ≡ 0 → LastAround t l end r None
   last-missed e j b = h.behind j (omega arith) b ∙ around-is t l j r
 
 pub head_at : {f g : ℕ → ℕ} {n r class : ℕ} {m : List ℕ} → Nested f g n m → class ≡ r → class + n < length m → LastIs f g n r (get_or m class 0)
@@ -50,10 +49,10 @@ some_is : (b : Bool) (x e : ℕ) → some e ≡ cond b (some x) none → x ≡ e
 some_is true x e h = let same : x ≡ e = cc in same
 some_is false x e h = let z : ◌≡◌ {A = ℕ} 0 1 = cc in absurd (omega arith)
 
-pub encloses : (t l : List ℕ) (n r : ℕ) {o : Outer} {e : TypeDefRow} {i : ℕ} → LastAround t l n r o → o ≡ Around e i → cell t l columns.enclosing i ≡ e.0
+pub encloses : (t l : List ℕ) (n r : ℕ) {o : Outer} {e : TypeDefRow} {i : ℕ} → LastAround t l n r o → o ≡ Some (e, i) → cell t l columns.enclosing i ≡ e.0
 unfolding around
 encloses t l n r {o} {e} {i} h q =
-    let found : LastAround t l n r (Around e i) = subst (LastAround t l n r) q h in
+    let found : LastAround t l n r (Some (e, i)) = subst (LastAround t l n r) q h in
     let f = cell t l columns.nested in
     let g = cell t l columns.enclosing in
     some_is (ltb 1 (f i) && (ltb 1 (g i) && eqb r (f i))) (g i) e.0 (found.1 ∙ sym (around-is t l i r))

@@ -9,17 +9,14 @@ use lib.Dec.{eqb, ltb}
 use lib.ListN.{length, length-append}
 use Rattle.buffers.specs.Texts.{Text}
 use Rattle.buffers.specs.Writes.{Kept}
-use Rattle.backwards.specs.Backwards.{Behind, Placed}
-use Rattle.backwards.specs.declared.Spot.{Spot}
-use Rattle.backwards.specs.declared.Spot.TheVariants.{From, NoRoom}
+use Rattle.backwards.specs.Backwards.{Spot, Behind, Placed}
 use Rattle.backwards.proofs.Laws.{behind-none, behind-then, behind-kept, placed-then}
 use Rattle.record.specs.Namespaces.{full_name, own_namespace}
 use Rattle.rows.specs.Columns as columns
 use Rattle.rows.specs.Layout.{rows_at, cell}
-use Rattle.names.specs.Naming.{class_string, name_in, space_in, around_in, LastAround, dotted, front_in}
-use Rattle.names.specs.declared.Outer.{Outer}
-use Rattle.names.specs.declared.Outer.TheVariants.{Nested, Outermost}
+use Rattle.names.specs.Naming.{Outer, class_string, name_in, space_in, around_in, LastAround, dotted, front_in}
 use Rattle.classes.specs.declared.TypeDefRow.{TypeDefRow}
+use Rattle.std.specs.Prelude.{Some, None}
 
 -- By the tables stream, its layout and the strings heap:
 module _ (t l strings : List ℕ) where
@@ -95,7 +92,7 @@ module _ (t l strings : List ℕ) where
 
   module _ {r : ℕ} {b₀ : List ℕ} {floor end : ℕ} {b : List ℕ} {i k p : ℕ} (s : Passing r b₀ floor end b i k p) where
     -- No row puts a class around class k.
-    pub pass-out : {o : Outer} → LastAround t l i k o → o ≡ Outermost → Passing r b₀ floor end b 0 k p
+    pub pass-out : {o : Outer} → LastAround t l i k o → o ≡ None → Passing r b₀ floor end b 0 k p
     pass-out last is =
         let none-acts = subst (LastAround t l i k) is last in
         record {
@@ -106,8 +103,8 @@ module _ (t l strings : List ℕ) where
         }
 
     -- A row puts class e around class k, and no row after it any other.
-    module _ {o : Outer} {e : TypeDefRow} {at : ℕ} (last : LastAround t l i k o) (is : o ≡ Nested e at) where
-      found : LastAround t l i k (Nested e at)
+    module _ {o : Outer} {e : TypeDefRow} {at : ℕ} (last : LastAround t l i k o) (is : o ≡ Some (e, at)) where
+      found : LastAround t l i k (Some (e, at))
       found = subst (LastAround t l i k) is last
 
       left_at : front_in t l strings (rows_at l columns.nested) r ≡ front_in t l strings (suc at) k ++ s.done
@@ -133,14 +130,14 @@ module _ (t l strings : List ℕ) where
       }
 
       pub pass-full : (m : Text) {b' : List ℕ} → name_in t l strings e.0 ≡ some m → (p < floor + length (m ++ 0x2E ∷ [])) × Kept b floor b'
-          → Placed b₀ floor end (front_in t l strings (rows_at l columns.nested) r) b' NoRoom
+          → Placed b₀ floor end (front_in t l strings (rows_at l columns.nested) r) b' None
       pass-full m n w =
           let whole = ap length (left_in m n) in
           let outer = length-append (front_in t l strings at e.0) ((m ++ 0x2E ∷ []) ++ s.done) in
           let inner = length-append (m ++ 0x2E ∷ []) s.done in
           (omega (arith, s.behind.place), behind-kept s.behind w.1)
 
-      pub pass-bare : name_in t l strings e.0 ≡ none → Placed b₀ floor end (front_in t l strings (rows_at l columns.nested) r) b (From p)
+      pub pass-bare : name_in t l strings e.0 ≡ none → Placed b₀ floor end (front_in t l strings (rows_at l columns.nested) r) b (Some p)
       pass-bare n = rw (left_at ∙ ap (λ (x : Text). x ++ s.done) (front-bare at k e.0 found.1 n)) s.behind
 
     -- All rows are passed.
@@ -151,6 +148,6 @@ module _ (t l strings : List ℕ) where
       pass-own m b' spot n w =
           rw (s.left ∙ ap (λ (x : Text). x ++ s.done) (front-own i k h ∙ ap dotted n)) (placed-then s.behind b' (m ++ 0x2E ∷ []) spot w)
 
-      pub pass-none : class_string t l strings columns.type_namespace k ≡ none → Placed b₀ floor end (front_in t l strings (rows_at l columns.nested) r) b (From p)
+      pub pass-none : class_string t l strings columns.type_namespace k ≡ none → Placed b₀ floor end (front_in t l strings (rows_at l columns.nested) r) b (Some p)
       unfolding dotted
       pass-none n = rw (s.left ∙ ap (λ (x : Text). x ++ s.done) (front-own i k h ∙ ap dotted n)) s.behind

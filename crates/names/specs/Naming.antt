@@ -1,5 +1,5 @@
 -- Names as the code finds them: a place in the strings heap, and what one backward pass over the NestedClass rows meets.
-use Rattle.std.specs.Prelude.{◌≡◌, cond, ◌&&◌, List, [], ◌∷◌, ◌++◌, ℕ, ◌+◌, ◌≤◌, ◌<◌, eqb, ltb, length}
+use Rattle.std.specs.Prelude.{◌≡◌, cond, ◌&&◌, List, [], ◌∷◌, ◌++◌, ℕ, ◌+◌, ◌≤◌, ◌<◌, eqb, ltb, length, Some, None}
 use Rattle.std.proofs.Math.Option.{Option, none, some}
 use Rattle.numbers.specs.Parts.{part}
 use Rattle.buffers.specs.Texts.{Text}
@@ -15,22 +15,31 @@ use Rattle.record.specs.View.{other_row, side_row}
 use Rattle.layouts.specs.Read.{read_column}
 use Rattle.rows.specs.Columns as columns
 use Rattle.rows.specs.Layout.{options_in, header_in, rows_at}
-use Rattle.names.specs.declared.Name.{Name}
-use Rattle.names.specs.declared.Name.TheVariants.{At, Missing}
-use Rattle.names.specs.declared.Around.{Around}
-use Rattle.names.specs.declared.Around.TheVariants.{Class, NoClass}
-use Rattle.names.specs.declared.Outer.{Outer}
-use Rattle.names.specs.declared.Outer.TheVariants.{Nested, Outermost}
+use Rattle.heaps.specs.declared.Span.{Span}
+use Rattle.classes.specs.declared.TypeDefRow.{TypeDefRow}
+use Rattle.std.specs.declared.option.Option as std
+
+-- Where in the strings heap a name stands, as the code has it.
+abbrev pub Name : Type 0
+Name = std.Option Span
+
+-- The class around another, as the code has it.
+abbrev pub Around : Type 0
+Around = std.Option TypeDefRow
+
+-- The last of some NestedClass rows that puts a class around another, as the code has it: the class and the row.
+abbrev pub Outer : Type 0
+Outer = std.Option (TypeDefRow × ℕ)
 
 -- The text that a name in the strings heap s is.
 abbrev pub name_text : List ℕ → Name → Option Text
-name_text s (At start n) = some (part s start n)
-name_text s Missing = none
+name_text s (Some span) = some (part s span.start span.len)
+name_text s None = none
 
 -- It lies in the heap.
 abbrev pub NameInside : List ℕ → Name → Type 0
-NameInside s (At start n) = start + n ≤ length s
-NameInside s Missing = Unit {0}
+NameInside s (Some span) = span.start + span.len ≤ length s
+NameInside s None = Unit {0}
 
 -- r is the text d, or that it is missing.
 pub record Shows (s : List ℕ) (d : Option Text) (r : Name) : Type 0 where
@@ -65,13 +74,14 @@ around_in t l i r =
     cond (ltb 1 (nested w bytes) && (ltb 1 (enclosing w bytes) && eqb r (nested w bytes))) (some (enclosing w bytes)) none
 
 abbrev pub around_says : Around → Option ℕ
-around_says (Class r) = some r.0
-around_says NoClass = none
+around_says (Some r) = some r.0
+around_says None = none
 
 -- Of the first n NestedClass rows the last that puts a class around the class at TypeDef row r, and that class; or that none does.
 abbrev pub LastAround : List ℕ → List ℕ → ℕ → ℕ → Outer → Type 0
-LastAround t l n r (Nested e i) = (i < n) × (some e.0 ≡ around_in t l i r) × ((j : ℕ) → i < j → j < n → none ≡ around_in t l j r)
-LastAround t l n r Outermost = (j : ℕ) → j < n → none ≡ around_in t l j r
+LastAround t l n r (Some outer) =
+    (outer.1 < n) × (some outer.0.0 ≡ around_in t l outer.1 r) × ((j : ℕ) → outer.1 < j → j < n → none ≡ around_in t l j r)
+LastAround t l n r None = (j : ℕ) → j < n → none ≡ around_in t l j r
 
 -- What stands in front of a name: its namespace and a dot, where it has one.
 unfoldable pub dotted : Option Text → Text

@@ -11,6 +11,9 @@ ghost use Rattle.rows.specs.Layout.{Laid, rows_at, cell};
 ghost use Rattle.rows.specs.Held.{Nested};
 ghost use Rattle.nests.specs.Nests.{Nesting};
 
+use numbers::wide;
+use rows::columns;
+
 // The link of a class, by its TypeDef row as a key; 0 where there is no room for it.
 fn link_of(memory: &[u32], room: usize, key: usize) -> u32
     requires { room ≤ length memory.now }
@@ -30,13 +33,7 @@ fn nest_row(memory: &mut [u32], room: usize, i: usize, nested: usize, enclosing:
 {
     let link = link_of(memory, room, enclosing);
     memory[room + i] = link;
-    if nested < 2 {
-        return;
-    }
-    if enclosing < 2 {
-        return;
-    }
-    if room <= nested {
+    if nested < 2 || enclosing < 2 || room <= nested {
         return;
     }
     memory[nested] = (i + 1) as u32;
@@ -49,22 +46,15 @@ pub fn nest_rows(memory: &mut [u32], tables: &[u8], layout: &[u32])
         (cell tables.now layout.now columns.enclosing) (rows_at layout.now columns.nested)
         memory.new }
 {
-    let n = rows::count_rows(layout, rows::columns::NESTED);
+    let n = rows::count_rows(layout, columns::NESTED);
     if memory.len() < n {
         return;
     }
     let room = memory.len() - n;
     numbers::clear_words(&mut memory[..room]);
-    let mut i = 0;
-    while i < n {
-        let nested = numbers::wide(rows::read_column(tables, layout, rows::columns::NESTED, i));
-        let enclosing = numbers::wide(rows::read_column(
-            tables,
-            layout,
-            rows::columns::ENCLOSING,
-            i,
-        ));
+    for i in 0..n {
+        let nested = wide(rows::read_column(tables, layout, columns::NESTED, i));
+        let enclosing = wide(rows::read_column(tables, layout, columns::ENCLOSING, i));
         nest_row(memory, room, i, nested, enclosing);
-        i += 1;
     }
 }

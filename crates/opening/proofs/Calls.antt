@@ -3,13 +3,9 @@
 use mathlib.Core.Path.{◌≡◌, sym, ap, subst, ◌∙◌}
 use mathlib.Core.List.{List}
 use Prim.Native.Nat.{ℕ}
-use Rattle.buffers.specs.Replies.{refused_by, Named}
+use Rattle.buffers.specs.Replies.{Reply, refused_by, Named}
 use Rattle.buffers.specs.declared.Refusal.{Refusal}
-use Rattle.buffers.specs.declared.Reply.{Reply}
-use Rattle.buffers.specs.declared.Reply.TheVariants.{No}
 use Rattle.header.specs.declared.Options.{Options}
-use Rattle.header.specs.declared.Opened.{Opened}
-use Rattle.header.specs.declared.Opened.TheVariants.{Refused, Ready}
 use Rattle.record.specs.View.{View, view, view_of}
 use Rattle.record.specs.Answers.{NumberCall, NameCall}
 use Rattle.record.specs.Allowance.{number_charged, name_charged, NumberedCharged, NamedCharged}
@@ -17,13 +13,15 @@ use Rattle.record.proofs.Allowance.{number-unopened, name-unopened}
 use Rattle.rows.specs.Layout.{view_in}
 use Rattle.opening.specs.Opening.{OpenedAs}
 use Rattle.opening.proofs.Laws.{opened_view}
+use Rattle.std.specs.Prelude.{Ok, Err}
+use Rattle.header.specs.Stream.{Opened}
 
 module _ (strings blob : List ℕ) {o : Options} {t : List ℕ} {a : Opened} {l : List ℕ} (c : OpenedAs o t a l) where
   abbrev v : View
   v = view o t strings blob
 
-  module _ {why : Refusal} (e : a ≡ Refused why) where
-    pub number-refused : (call : NumberCall) (allowance : ℕ) → NumberedCharged (number_charged call v allowance) (No why) allowance
+  module _ {why : Refusal} (e : a ≡ Err why) where
+    pub number-refused : (call : NumberCall) (allowance : ℕ) → NumberedCharged (number_charged call v allowance) (Err why) allowance
     unfolding view_of
     number-refused call allowance =
         let same = sym (number-unopened v (sym c.answer ∙ e) call allowance) in
@@ -36,7 +34,7 @@ module _ (strings blob : List ℕ) {o : Options} {t : List ℕ} {a : Opened} {l 
         let same = sym (name-unopened v (sym c.answer ∙ e) call allowance) in
         record { named = subst (λ x. Named x.answer b r b') same n; leaves = ap (λ x. x.left) same }
 
-  module _ (e : a ≡ Ready) where
+  module _ (e : a ≡ (Ok tt)) where
     pub number-ready : (call : NumberCall) (allowance : ℕ) {r : Reply} {left : ℕ}
         → NumberedCharged (number_charged call (view_in t l strings blob) allowance) r left → NumberedCharged (number_charged call v allowance) r left
     number-ready call allowance {r} {left} n =

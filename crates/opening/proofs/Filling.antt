@@ -10,7 +10,7 @@ use lib.Dec.{eqb}
 use lib.ListN.{length, get_or, set, length-set, length-replicate, replicate, get_or-replicate}
 use lib.Seq.{get_or-set_same, get_or-set_other}
 use Rattle.header.specs.declared.Options.{Options}
-use Rattle.header.specs.declared.Header.{Header}
+use Rattle.header.specs.Stream.{Opening}
 use Rattle.layouts.specs.declared.IndexSizes.{IndexSizes}
 use Rattle.layouts.specs.Lists.{all_below}
 use Rattle.layouts.specs.Read.{Of, offset_in, bytes_in}
@@ -73,7 +73,7 @@ pub kind-below : (cs : List Of) → all_below 64 (map (λ x. x.kind) cs) ≡ tru
 kind-below cs all kinds e c = rw e (below (map (λ x. x.kind) cs) all c)
 
 -- The numbers of a column, as the code has them, are those of the columns cs, which `all` begins with.
-module _ (o : Options) (h : Header) (n : ℕ) (cs : List Of) (d₀ : Of) (all : List ℕ)
+module _ (o : Options) (h : Opening) (n : ℕ) (cs : List Of) (d₀ : Of) (all : List ℕ)
     (all-at : (c d : ℕ) → c < length cs → d < columns.numbers → get_or all (columns.numbers * c + d) 0 ≡ get_or (column_numbers o h n (get_or cs c d₀)) d 0) where
   module _ (r : Extents) (e : walk_says r ≡ walk_reply o h n) (c k : ℕ) (l : c < length cs) (ek : k ≡ (get_or cs c d₀).kind) where
     -- Where it stands, and from that the two words.

@@ -1,38 +1,26 @@
--- The layout as `lay` fills it: kept rows, the numbers of its columns, and the options behind them. Assumes nothing.
+-- The layout as `lay` fills it: the numbers of its columns, and the options behind them. Assumes nothing.
 use mathlib.Core.Path.{◌≡◌, refl}
-use mathlib.Core.Bool.{Bool, true, false, cond, ◌&&◌, not}
-use mathlib.Core.Logic.{◌≢◌}
+use mathlib.Core.Bool.{Bool, true, false, cond}
 use mathlib.Core.List.{List}
+use mir.Val.{bool_byte}
 use Prim.Native.Nat.{ℕ, ◌+◌, ◌*◌, ◌≤◌, ◌<◌}
 use native.Mathlib.Omega.{arith}
-use borrow.Author.Tests.{eq-eqb, ne_eqb}
-use lib.Dec.{eqb}
 use lib.ListN.{get_or, set}
 use Rattle.header.specs.declared.Options.{Options}
-use Rattle.header.specs.declared.Header.{Header}
+use Rattle.header.specs.Stream.{Opening}
 use Rattle.layouts.specs.Read.{read_columns, read_column}
-use Rattle.tables.specs.Extents.{only_entire}
 use Rattle.rows.specs.Columns as columns
 use Rattle.rows.specs.Layout.{column_numbers, option_numbers, layout_of}
 use Rattle.rows.proofs.Numbers.{numbers-at}
 use Rattle.opening.specs.Opening.{Unmarked}
 use Rattle.opening.proofs.Filling.{Filled, put}
 
--- The rows that are kept, by what the code tests.
-pub kept-entire : (k rows count : ℕ) → rows ≡ count → rows ≡ cond (only_entire k && not (eqb rows count)) 0 rows
-kept-entire k rows count e = rw (eq-eqb rows count e) (go (only_entire k))
-  where
-    go : (b : Bool) → rows ≡ cond (b && false) 0 rows
-    go true = refl
-    go false = refl
+-- A flag as a number.
+pub bit_is : (b : Bool) → bool_byte b ≡ cond b 1 0
+bit_is true = refl
+bit_is false = refl
 
-pub kept-none : (k rows count : ℕ) {b : Bool} → rows ≢ count → b ≡ only_entire k → b ≡ true → 0 ≡ cond (only_entire k && not (eqb rows count)) 0 rows
-kept-none k rows count ne e f = rw (ne_eqb rows count ne, ← e, f)
-
-pub kept-others : (k rows count : ℕ) {b : Bool} → b ≡ only_entire k → b ≡ false → rows ≡ cond (only_entire k && not (eqb rows count)) 0 rows
-kept-others k rows count e f = rw (← e, f)
-
-module _ (o : Options) (h : Header) (n : ℕ) where
+module _ (o : Options) (h : Opening) (n : ℕ) where
   pub layout-at : (c d : ℕ) → c < columns.count → d < columns.numbers → get_or (layout_of o h n) (columns.numbers * c + d) 0 ≡ get_or (column_numbers o h n (read_column c)) d 0
   unfolding layout_of
   layout-at c d l k = numbers-at o h n read_columns (option_numbers o h n) (read_column columns.count) c d l k

@@ -2,8 +2,7 @@
 
 #![tactic(auto)]
 
-ghost use Rattle.std.specs.Prelude.{◌≡◌, cond, ◌&&◌, not, ◌≤◌, ◌<◌, eqb, replicate};
-ghost use Rattle.header.specs.declared.Opened.TheVariants.{Ready};
+ghost use Rattle.std.specs.Prelude.{◌≡◌, cond, ◌&&◌, not, ◌≤◌, ◌<◌, eqb, replicate, Ok};
 ghost use Rattle.tables.specs.Extents.{only_entire};
 ghost use Rattle.rows.specs.Columns as columns;
 ghost use Rattle.rows.specs.Layout.{layout_of};
@@ -23,42 +22,18 @@ const MEMBER_REF: usize = 0x0A;
 // II.22.39
 const TYPE_SPEC: usize = 0x1B;
 
-// An option as a number.
-pub fn flag(b: bool) -> u32
-    ensures { result ≡ cond b 1 0 }
-{
-    if b {
-        return 1;
-    }
-    0
-}
-
+#[tactic(auto, unfolding(tables::specs::Extents::only_entire))]
 fn only_entire(kind: usize) -> bool
     ensures { result ≡ only_entire kind }
 {
-    if kind == TYPE_REF {
-        return true;
-    }
-    if kind == INTERFACE_IMPL {
-        return true;
-    }
-    if kind == MEMBER_REF {
-        return true;
-    }
-    if kind == TYPE_SPEC {
-        return true;
-    }
-    false
+    matches!(kind, TYPE_REF | INTERFACE_IMPL | MEMBER_REF | TYPE_SPEC)
 }
 
 // The rows of a table that are kept, where so many are whole and the table has a count.
 pub fn kept_rows(kind: usize, rows: u32, count: u32) -> u32
     ensures { result ≡ cond (only_entire kind && not (eqb rows count)) 0 rows }
 {
-    if rows == count {
-        return rows;
-    }
-    if only_entire(kind) {
+    if rows != count && only_entire(kind) {
         return 0;
     }
     rows
@@ -68,7 +43,7 @@ pub fn kept_rows(kind: usize, rows: u32, count: u32) -> u32
 fn lay(layout: &mut [u32], len: usize, first: usize, heap: u8, counts: &[u32; 64], options: Options)
     requires first_le_len { (first ≤ len) × (len < 9223372036854775808) }
     requires layout_value { layout.old ≡ replicate columns.size 0 }
-    ensures { (Unmarked (layout_of options (record { answer = Ready; heap = heap; first = first; counts = counts.now }) len) layout.new) ×
+    ensures { (Unmarked (layout_of options (record { answer = Ok tt; heap = heap; first = first; counts = counts.now }) len) layout.new) ×
         (options.limit < 4294967296) }
 {
     let security = options.security;
@@ -88,8 +63,8 @@ fn lay(layout: &mut [u32], len: usize, first: usize, heap: u8, counts: &[u32; 64
         layout[at + columns::ROWS] = kept_rows(kind, walk.rows[kind], counts[kind]);
     }
     layout[columns::LIMIT] = options.limit;
-    layout[columns::SECURITY] = flag(security);
-    layout[columns::TAKER] = flag(options.taker);
+    layout[columns::SECURITY] = u32::from(security);
+    layout[columns::TAKER] = u32::from(options.taker);
 }
 
 // What is lent for the layout is zero, and stays so where the stream is refused.
@@ -97,15 +72,7 @@ pub fn open(tables: &[u8], options: Options, layout: &mut [u32]) -> Opened
     requires { layout.old ≡ replicate columns.size 0 }
     ensures { OpenedAs options tables.now result layout.new }
 {
-    let h = header::read_header(tables, options);
-    let answer = h.answer;
-    let first = h.first;
-    let heap = h.heap;
-    match answer {
-        Opened::Refused(why) => Opened::Refused(why),
-        Opened::Ready => {
-            lay(layout, tables.len(), first, heap, &h.counts, options);
-            Opened::Ready
-        }
-    }
+    let h = header::read_header(tables, options)?;
+    lay(layout, tables.len(), h.first, h.heap, &h.counts, options);
+    Ok(())
 }

@@ -221,7 +221,7 @@ module _ (s : List ℕ) (most : ℕ) where
           go : Dec (at ≤ length s) → (type e l s at).steps ≤ price most (length s)
           go (yes h) = omega (arith, (type-frugal l).spends at, price-up most (((type-onward e l).ahead s at).within h))
           go (no g) =
-              let u = passes-failed (type-past e l s at 0 (omega (arith, g))) refl in
+              let u = passes-failed (type-past e l s at 0 (omega (arith, g))) in
               omega (arith, u.paid)
 
       method-within : (signature e s 0).steps ≤ price most (length s)

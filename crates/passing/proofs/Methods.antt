@@ -11,8 +11,8 @@ use Rattle.record.specs.Readings.{attempt}
 use Rattle.record.specs.Types.{Env, method_start, shown, parameters, fn_ptr, type}
 use Rattle.record.specs.Names.{levels}
 use Rattle.record.specs.Methods.{Signature, tries, signature}
-use Rattle.passing.specs.Passing.{Passes, over, failed, spent}
-use Rattle.passing.specs.declared.Passed.{Passed}
+use Rattle.std.specs.Prelude.{Some}
+use Rattle.passing.specs.Passing.{Passage, Passes, over, failed, spent}
 use Rattle.passing.specs.declared.Passed.TheVariants.{Over, Failed}
 use Rattle.passing.proofs.Laws.{When}
 
@@ -22,15 +22,15 @@ pub record Like {A B : Type 0} (d : Res A) (f : Res B) : Type 0 where
   pub next : d.next ≡ f.next
   pub steps : d.steps ≡ f.steps
 
-like-passes : {A B : Type 0} (d : Res A) (f : Res B) → Like d f → {steps : ℕ} {r : Passed} → Passes d steps r → Passes f steps r
+like-passes : {A B : Type 0} (d : Res A) (f : Res B) → Like d f → {steps : ℕ} {r : Passage} → Passes d steps r → Passes f steps r
 like-passes {A} {B} d f h {steps} (over {next = n} {left = l} a g o e) = go f.got refl
   where
-    go : (x : Option B) → f.got ≡ x → Passes f steps (Over n l)
+    go : (x : Option B) → f.got ≡ x → Passes f steps (Some (Over n l))
     go none y = absurd (subst When (sym (ap is_there g) ∙ h.there ∙ ap is_there y) tt)
     go (some b) y = over {left = l} b y (sym h.next ∙ o) (omega (arith, h.steps, e))
 like-passes {A} {B} d f h {steps} (failed {next = n} {left = l} g o e) = go f.got refl
   where
-    go : (x : Option B) → f.got ≡ x → Passes f steps (Failed n l)
+    go : (x : Option B) → f.got ≡ x → Passes f steps (Some (Failed n l))
     go none y = failed {left = l} y (sym h.next ∙ o) (omega (arith, h.steps, e))
     go (some b) y = absurd (subst When (sym (ap is_there y) ∙ sym h.there ∙ ap is_there g) tt)
 like-passes d f h (spent e) = spent (omega (arith, h.steps, e))
@@ -81,5 +81,5 @@ module _ (e : Env) (s : List ℕ) (at : ℕ) where
       (λ t j. made-like (parameters n 0 T) (tries n T) (λ ts. q "FnPtr<" ++ t ++ q "(" ++ ts ++ q ")>") (λ ts. record { returns = t; parameters = ts }) s j
       (parameters-like T s n 0 j)))
 
-  pub signature-passes : {steps : ℕ} {r : Passed} → Passes (fn_ptr (type e levels) s at) steps r → Passes (signature e s at) steps r
+  pub signature-passes : {steps : ℕ} {r : Passage} → Passes (fn_ptr (type e levels) s at) steps r → Passes (signature e s at) steps r
   signature-passes h = like-passes (fn_ptr (type e levels) s at) (signature e s at) signature-like h

@@ -1,30 +1,34 @@
 -- Passing over a part of a signature without writing it, within a number of steps.
-use Rattle.std.specs.Prelude.{◌≡◌, true, List, ℕ, ◌+◌, ◌%◌, ◌<◌, ◌≤◌, length, get_or}
+use Rattle.std.specs.Prelude.{◌≡◌, true, List, ℕ, ◌+◌, ◌%◌, ◌<◌, ◌≤◌, length, get_or, Some, None}
 use Rattle.std.proofs.Math.Option.{none, some}
 use Rattle.numbers.specs.Reading.{Res}
 use Rattle.numbers.specs.Compressed.{uint}
 use Rattle.heaps.specs.Lookups.{is_there}
-use Rattle.steps.specs.declared.Steps.{Steps}
-use Rattle.steps.specs.declared.Steps.TheVariants as steps
 use Rattle.record.specs.Types.{Env, simple, type_full_name, type}
 use Rattle.record.specs.View.{View}
 use Rattle.record.specs.Names.{spec_blob}
 use Rattle.record.specs.Methods.{signature}
 use Rattle.passing.specs.declared.Passed.{Passed}
-use Rattle.passing.specs.declared.Passed.TheVariants.{Over, Failed, Spent}
+use Rattle.passing.specs.declared.Passed.TheVariants.{Over, Failed}
+use Rattle.std.specs.declared.option.Option as std
+use Rattle.steps.specs.Counting.{Steps}
+
+-- A part of a signature that was passed over, or none, where the steps do not suffice, as the code has it.
+abbrev pub Passage : Type 0
+Passage = std.Option Passed
 
 -- Within so many steps r is what passing over the reading d comes to: it has a value or none, the position after it is the reading's, and
 -- so many steps are left; or the steps do not suffice.
-pub data Passes {A : Type 0} (d : Res A) (steps : ℕ) : Passed → Type 0 where
-  over : {next left : ℕ} (a : A) → d.got ≡ some a → d.next ≡ next → d.steps + left ≡ steps → Passes d steps (Over next left)
-  failed : {next left : ℕ} → d.got ≡ none → d.next ≡ next → d.steps + left ≡ steps → Passes d steps (Failed next left)
-  spent : steps < d.steps → Passes d steps Spent
+pub data Passes {A : Type 0} (d : Res A) (steps : ℕ) : Passage → Type 0 where
+  over : {next left : ℕ} (a : A) → d.got ≡ some a → d.next ≡ next → d.steps + left ≡ steps → Passes d steps (Some (Over next left))
+  failed : {next left : ℕ} → d.got ≡ none → d.next ≡ next → d.steps + left ≡ steps → Passes d steps (Some (Failed next left))
+  spent : steps < d.steps → Passes d steps None
 
 -- What is left of the steps.
-abbrev pub left_of : Passed → Steps
-left_of (Over next left) = steps.Left left
-left_of (Failed next left) = steps.Left left
-left_of Spent = steps.Spent
+abbrev pub left_of : Passage → Steps
+left_of (Some (Over next left)) = Some left
+left_of (Some (Failed next left)) = Some left
+left_of None = None
 
 -- A type that is its tag alone (II.23.1.16) stands at the position, with a level and a step left for it.
 pub record Simple (s : List ℕ) (at left steps : ℕ) : Type 0 where

@@ -15,26 +15,23 @@ ghost use Rattle.record.specs.Types.{type_full_name, parameters, class_type, gen
 ghost use Rattle.rows.specs.Layout.{Laid, view_in};
 ghost use Rattle.sig_leaves.specs.Leaves.{generics_of};
 ghost use Rattle.frames.specs.Stack.{Other};
-ghost use Rattle.signatures.specs.Environment.{env_in, owner_at, env_of};
+ghost use Rattle.signatures.specs.Environment.{env_in, env_of};
 ghost use Rattle.signatures.specs.Parts.{owner_by};
 ghost use Rattle.passing.specs.Passing.{Passes, left_of, Simple, NamesSpec, Suffices, SpecsWithin};
 
 use classes::TypeDefRow;
-use frames::{Ascent, Descent};
-use numbers::Uint;
-use rendering::Rendering;
+use frames::Ascent;
+use heaps::Span;
 use rows::columns;
-use sig_leaves::{Blob, LEVELS, Owner};
+use sig_leaves::{LEVELS, Owner};
 use signatures::Owners;
-use steps::Steps;
 
-// A part of a signature that was passed over: the position after it and the steps left, where it has a text and where it has none. Or
-// the steps do not suffice.
-#[derive(Drop)]
+// A part of a signature that was passed over: the position after it and the steps left, where it has a text and where it has none. The
+// functions say so of a part, or None, where the steps do not suffice.
+#[derive(Clone, Copy, Debug, PartialEq, Eq)]
 pub enum Passed {
     Over(usize, u64),
     Failed(usize, u64),
-    Spent,
 }
 
 // Frames for generic types inside of one another: first a few, which suffice nearly always; where they are all in use, many at once, so
@@ -58,12 +55,12 @@ pub fn pass_type(
     pos: usize,
     left: usize,
     steps: u64,
-) -> Passed
+) -> Option<Passed>
     requires { Laid tables.now layout.now }
     ensures { let e = env_in tables.now layout.now strings.now blob.now class method in
         Passes (type e left sig.now pos) steps result }
 {
-    let owners = signatures::owners_of(class, method);
+    let owners = Owners { class, method };
     over_type(
         tables, strings, blob, layout, &owners, sig, pos, left, steps,
     )
@@ -80,12 +77,12 @@ pub fn pass_name(
     index: u32,
     left: usize,
     steps: u64,
-) -> Passed
+) -> Option<Passed>
     requires { Laid tables.now layout.now }
     ensures { let e = env_in tables.now layout.now strings.now blob.now class method in
         Passes (type_full_name e (type e left) index) steps result }
 {
-    let owners = signatures::owners_of(class, method);
+    let owners = Owners { class, method };
     over_name(tables, strings, blob, layout, &owners, index, left, steps)
 }
 
@@ -99,25 +96,23 @@ pub fn pass_signature(
     method: Owner,
     sig: &[u8],
     steps: u64,
-) -> Passed
+) -> Option<Passed>
     requires { Laid tables.now layout.now }
     ensures { let e = env_in tables.now layout.now strings.now blob.now class method in
         Passes (signature e sig.now 0) steps result }
 {
-    let owners = signatures::owners_of(class, method);
+    let owners = Owners { class, method };
     over_method(
         tables, strings, blob, layout, &owners, sig, 0, LEVELS, steps,
     )
 }
 
 // What is left of the steps after a part, whether it has a text or not.
-pub fn steps_left(passed: Passed) -> Steps
+pub fn steps_left(passed: Option<Passed>) -> Option<u64>
     ensures { result ≡ left_of passed }
 {
-    match passed {
-        Passed::Over(_, left) => Steps::Left(left),
-        Passed::Failed(_, left) => Steps::Left(left),
-        Passed::Spent => Steps::Spent,
+    match passed? {
+        Passed::Over(_, left) | Passed::Failed(_, left) => Some(left),
     }
 }
 
@@ -126,16 +121,12 @@ fn names_spec(sig: &[u8], pos: usize) -> bool
     requires { pos < length sig.now }
     ensures { result ≡ false → NamesSpec sig.now pos → ⊥ }
 {
-    let tag = sig[pos];
-    if tag < 0x11 {
-        return false;
-    }
-    if 0x12 < tag {
+    if !matches!(sig[pos], 0x11 | 0x12) {
         return false;
     }
     match numbers::read_uint(sig, pos + 1) {
-        Uint::Number(index, _) => index % 4 == 2,
-        Uint::NoNumber(_) => false,
+        Ok((index, _)) => index % 4 == 2,
+        Err(_) => false,
     }
 }
 
@@ -144,16 +135,13 @@ fn names_spec(sig: &[u8], pos: usize) -> bool
 pub fn surely_suffices(sig: &[u8], steps: u64) -> bool
     ensures { result ≡ true → Suffices sig.now steps }
 {
-    let n = sig.len();
-    if steps < wide(n) {
+    if steps < sig.len() as u64 {
         return false;
     }
-    let mut i = 0;
-    while i < n {
+    for i in 0..sig.len() {
         if names_spec(sig, i) {
             return false;
         }
-        i += 1;
     }
     true
 }
@@ -165,11 +153,11 @@ fn spec_suffices(tables: &[u8], blob: &[u8], layout: &[u32], row: u32, most: u64
         ((strings spec : List ℕ) → result ≡ true → spec_blob (v strings blob.now) row ≡ some spec → Suffices spec most) }
 {
     match sig_leaves::spec_blob(tables, blob, layout, row) {
-        Blob::At { start, len } => {
+        Some(Span { start, len }) => {
             let spec = numbers::cut(blob, start, len);
             surely_suffices(spec, most)
         }
-        Blob::Missing => true,
+        None => true,
     }
 }
 
@@ -179,11 +167,8 @@ pub fn specs_suffice(tables: &[u8], blob: &[u8], layout: &[u32], most: u64) -> b
     ensures { let v = view_in tables.now layout.now in
         ((strings : List ℕ) (g h : List Name) → result ≡ true → SpecsWithin (env (v strings blob.now) g h) most) }
 {
-    let n = rows::count_rows(layout, columns::SPEC_SIGNATURE);
-    let mut row = 0;
-    while row < n {
-        row += 1;
-        if !spec_suffices(tables, blob, layout, row as u32, most) {
+    for i in 0..rows::count_rows(layout, columns::SPEC_SIGNATURE) {
+        if !spec_suffices(tables, blob, layout, i as u32 + 1, most) {
             return false;
         }
     }
@@ -191,45 +176,30 @@ pub fn specs_suffice(tables: &[u8], blob: &[u8], layout: &[u32], most: u64) -> b
 }
 
 // What was looked up and read no byte: whether it has a text, and the position after it.
-fn tell(there: bool, next: usize, steps: u64) -> Passed
+fn tell(there: bool, next: usize, steps: u64) -> Option<Passed>
     ensures { (o : Option Text) → there ≡ is_there o → Passes (known o [] next) steps result }
 {
     if there {
-        return Passed::Over(next, steps);
+        return Some(Passed::Over(next, steps));
     }
-    Passed::Failed(next, steps)
-}
-
-fn wide(x: usize) -> u64
-    ensures { result ≡ x }
-{
-    x as u64
+    Some(Passed::Failed(next, steps))
 }
 
 // Whether a type that is its tag alone stands at a position, with a level and a step left for it.
 fn is_simple(sig: &[u8], pos: usize, left: usize, steps: u64) -> bool
     ensures { result ≡ true → Simple sig.now pos left steps }
 {
-    if sig.len() <= pos {
-        return false;
-    }
-    if left == 0 {
-        return false;
-    }
-    if steps == 0 {
-        return false;
-    }
-    sig_leaves::is_simple(sig[pos])
+    pos < sig.len() && 0 < left && 0 < steps && sig_leaves::is_simple(sig[pos])
 }
 
 // The owner that a tag means: 0x13 the class, 0x1E the method.
 fn owner_by(owners: &Owners, tag: u8) -> Owner
-    ensures { result ≡ owner_by tag (owner_at owners.now 0) (owner_at owners.now 2) }
+    ensures { result ≡ owner_by tag owners.now.class owners.now.method }
 {
     if tag == 0x13 {
-        return signatures::owner_at(owners, 0);
+        return owners.class;
     }
-    signatures::owner_at(owners, 2)
+    owners.method
 }
 
 // 0x13, 0x1E: a generic parameter of the class, or of the method.
@@ -242,31 +212,31 @@ fn over_var(
     pos: usize,
     steps: u64,
     tag: u8,
-) -> Passed
+) -> Option<Passed>
     requires { Laid tables.now layout.now }
-    ensures { let owner = owner_by tag (owner_at owners.now 0) (owner_at owners.now 2) in
+    ensures { let owner = owner_by tag owners.now.class owners.now.method in
         ((blob : List ℕ) → Passes
         (generic (name_at (generics_of (view_in tables.now layout.now strings.now blob) owner))
         sig.now pos) steps result) }
 {
     match numbers::read_uint(sig, pos) {
-        Uint::Number(i, next) => {
+        Ok((i, next)) => {
             let owner = owner_by(owners, tag);
             let there = sig_leaves::has_generic(tables, strings, layout, owner, numbers::wide(i));
             tell(there, next, steps)
         }
-        Uint::NoNumber(next) => Passed::Failed(next, steps),
+        Err(next) => Some(Passed::Failed(next, steps)),
     }
 }
 
 // The shape of an array (II.23.2.13).
-fn over_shape(sig: &[u8], pos: usize, steps: u64) -> Passed
+fn over_shape(sig: &[u8], pos: usize, steps: u64) -> Option<Passed>
     ensures { Passes (shape sig.now pos) steps result }
 {
     let mut space = [0u8; 1];
     match shapes::push_shape(&mut space, PAST, sig, pos) {
-        Rendering::Done(_, next) => Passed::Over(next, steps),
-        Rendering::Failed(next) => Passed::Failed(next, steps),
+        Ok((_, next)) => Some(Passed::Over(next, steps)),
+        Err(next) => Some(Passed::Failed(next, steps)),
     }
 }
 
@@ -283,7 +253,7 @@ fn over_type(
     pos: usize,
     left: usize,
     steps: u64,
-) -> Passed
+) -> Option<Passed>
     requires { Laid tables.now layout.now }
     ensures { let e = env_of tables.now layout.now strings.now blob.now owners.now in
         Passes (type e left sig.now pos) steps result }
@@ -293,16 +263,16 @@ fn over_type(
     let mut have = steps;
     while p < sig.len() {
         if have == 0 {
-            return Passed::Spent;
+            return None;
         }
         let tag = sig[p];
         let next = p + 1;
         let rest = have - 1;
         if deep == 0 {
-            return Passed::Failed(next, rest);
+            return Some(Passed::Failed(next, rest));
         }
         if sig_leaves::is_simple(tag) {
-            return Passed::Over(next, rest);
+            return Some(Passed::Over(next, rest));
         }
         match tag {
             0x0F | 0x10 => {
@@ -315,13 +285,11 @@ fn over_type(
                 have = rest;
             }
             0x1F | 0x20 => match numbers::read_uint(sig, next) {
-                Uint::Number(_, after) => {
+                Ok((_, after)) => {
                     p = after;
                     have = rest;
                 }
-                Uint::NoNumber(after) => {
-                    return Passed::Failed(after, rest);
-                }
+                Err(after) => return Some(Passed::Failed(after, rest)),
             },
             0x11 | 0x12 => {
                 return over_class(
@@ -369,11 +337,11 @@ fn over_type(
                 );
             }
             _ => {
-                return Passed::Failed(next, rest);
+                return Some(Passed::Failed(next, rest));
             }
         }
     }
-    Passed::Failed(p, have)
+    Some(Passed::Failed(p, have))
 }
 
 // The same, where most types are their tag alone.
@@ -388,13 +356,13 @@ fn over_next(
     pos: usize,
     left: usize,
     steps: u64,
-) -> Passed
+) -> Option<Passed>
     requires { Laid tables.now layout.now }
     ensures { let e = env_of tables.now layout.now strings.now blob.now owners.now in
         Passes (type e left sig.now pos) steps result }
 {
     if is_simple(sig, pos, left, steps) {
-        return Passed::Over(pos + 1, steps - 1);
+        return Some(Passed::Over(pos + 1, steps - 1));
     }
     over_type(tables, strings, blob, layout, owners, sig, pos, left, steps)
 }
@@ -412,7 +380,7 @@ fn over_inner(
     left: usize,
     steps: u64,
     full: bool,
-) -> Passed
+) -> Option<Passed>
     requires laid { Laid tables.now layout.now }
     requires left_nonzero { (0 < left) × (full ≡ true → Other sig.now pos → ⊥) }
     ensures { let e = env_of tables.now layout.now strings.now blob.now owners.now in
@@ -436,7 +404,7 @@ fn over_few(
     pos: usize,
     left: usize,
     steps: u64,
-) -> Passed
+) -> Option<Passed>
     requires laid { Laid tables.now layout.now }
     requires left_nonzero { (0 < left) × (Other sig.now pos → ⊥) }
     ensures { let e = env_of tables.now layout.now strings.now blob.now owners.now in
@@ -460,7 +428,7 @@ fn over_many(
     pos: usize,
     left: usize,
     steps: u64,
-) -> Passed
+) -> Option<Passed>
     requires laid { Laid tables.now layout.now }
     requires left_nonzero { (0 < left) × (Other sig.now pos → ⊥) }
     ensures { let e = env_of tables.now layout.now strings.now blob.now owners.now in
@@ -485,7 +453,7 @@ fn over_level(
     left: usize,
     steps: u64,
     slots: &mut [u16],
-) -> Passed
+) -> Option<Passed>
     requires laid { Laid tables.now layout.now }
     requires left_nonzero { (0 < left) × (Other sig.now pos → ⊥) × (0 < length slots.old) }
     ensures { let e = env_of tables.now layout.now strings.now blob.now owners.now in
@@ -497,56 +465,32 @@ fn over_level(
     let mut n = 0;
     while p < sig.len() {
         match frames::descend(sig, p, slots, n) {
-            Descent::At(to, used, full, passed) => {
-                let m = wide(passed);
-                if have < m {
-                    return Passed::Spent;
-                }
+            Ok(to) => {
+                let rest = have.checked_sub(to.passed as u64)?;
                 match over_inner(
-                    tables,
-                    strings,
-                    blob,
-                    layout,
-                    owners,
-                    sig,
-                    to,
-                    left,
-                    have - m,
-                    full,
-                ) {
+                    tables, strings, blob, layout, owners, sig, to.at, left, rest, to.full,
+                )? {
                     Passed::Over(next, rest) => {
-                        match frames::ascend(&mut space, PAST, sig, next, slots, used) {
-                            Ascent::More(_, first, still) => {
+                        match frames::ascend(&mut space, PAST, sig, next, slots, to.used) {
+                            Ok(Ascent::More(_, first, still)) => {
                                 p = first;
                                 have = rest;
                                 n = still;
                             }
-                            Ascent::Over(_, last) => {
-                                return Passed::Over(last, rest);
-                            }
-                            Ascent::Broken(last) => {
-                                return Passed::Failed(last, rest);
-                            }
+                            Ok(Ascent::Over(_, last)) => return Some(Passed::Over(last, rest)),
+                            Err(last) => return Some(Passed::Failed(last, rest)),
                         }
                     }
-                    Passed::Failed(next, rest) => {
-                        return Passed::Failed(next, rest);
-                    }
-                    Passed::Spent => {
-                        return Passed::Spent;
-                    }
+                    Passed::Failed(next, rest) => return Some(Passed::Failed(next, rest)),
                 }
             }
-            Descent::Broken(next, passed) => {
-                let m = wide(passed);
-                if have < m {
-                    return Passed::Spent;
-                }
-                return Passed::Failed(next, have - m);
+            Err((next, passed)) => {
+                let rest = have.checked_sub(passed as u64)?;
+                return Some(Passed::Failed(next, rest));
             }
         }
     }
-    Passed::Failed(p, have)
+    Some(Passed::Failed(p, have))
 }
 
 // 0x11, 0x12: the name behind an index.
@@ -561,20 +505,19 @@ fn over_class(
     pos: usize,
     left: usize,
     steps: u64,
-) -> Passed
+) -> Option<Passed>
     requires { Laid tables.now layout.now }
     ensures { let e = env_of tables.now layout.now strings.now blob.now owners.now in
         Passes (class_type e (type e left) sig.now pos) steps result }
 {
     match numbers::read_uint(sig, pos) {
-        Uint::Number(index, next) => {
-            match over_name(tables, strings, blob, layout, owners, index, left, steps) {
-                Passed::Over(_, rest) => Passed::Over(next, rest),
-                Passed::Failed(_, rest) => Passed::Failed(next, rest),
-                Passed::Spent => Passed::Spent,
+        Ok((index, next)) => {
+            match over_name(tables, strings, blob, layout, owners, index, left, steps)? {
+                Passed::Over(_, rest) => Some(Passed::Over(next, rest)),
+                Passed::Failed(_, rest) => Some(Passed::Failed(next, rest)),
             }
         }
-        Uint::NoNumber(next) => Passed::Failed(next, steps),
+        Err(next) => Some(Passed::Failed(next, steps)),
     }
 }
 
@@ -589,7 +532,7 @@ fn over_name(
     index: u32,
     left: usize,
     steps: u64,
-) -> Passed
+) -> Option<Passed>
     requires { Laid tables.now layout.now }
     ensures { let e = env_of tables.now layout.now strings.now blob.now owners.now in
         Passes (type_full_name e (type e left) index) steps result }
@@ -603,13 +546,13 @@ fn over_name(
         ),
         1 => tell(names::has_ref_name(tables, strings, layout, row), 0, steps),
         2 => match sig_leaves::spec_blob(tables, blob, layout, row) {
-            Blob::At { start, len } => {
+            Some(Span { start, len }) => {
                 let spec = numbers::cut(blob, start, len);
                 over_type(tables, strings, blob, layout, owners, spec, 0, left, steps)
             }
-            Blob::Missing => Passed::Failed(0, steps),
+            None => Some(Passed::Failed(0, steps)),
         },
-        _ => Passed::Failed(0, steps),
+        _ => Some(Passed::Failed(0, steps)),
     }
 }
 
@@ -625,15 +568,14 @@ fn over_array(
     pos: usize,
     left: usize,
     steps: u64,
-) -> Passed
+) -> Option<Passed>
     requires { Laid tables.now layout.now }
     ensures { let e = env_of tables.now layout.now strings.now blob.now owners.now in
         Passes (array (type e left) sig.now pos) steps result }
 {
-    match over_next(tables, strings, blob, layout, owners, sig, pos, left, steps) {
+    match over_next(tables, strings, blob, layout, owners, sig, pos, left, steps)? {
         Passed::Over(next, rest) => over_shape(sig, next, rest),
-        Passed::Failed(next, rest) => Passed::Failed(next, rest),
-        Passed::Spent => Passed::Spent,
+        Passed::Failed(next, rest) => Some(Passed::Failed(next, rest)),
     }
 }
 
@@ -649,26 +591,25 @@ fn over_method(
     pos: usize,
     left: usize,
     steps: u64,
-) -> Passed
+) -> Option<Passed>
     requires { Laid tables.now layout.now }
     ensures { let e = env_of tables.now layout.now strings.now blob.now owners.now in
         Passes (fn_ptr (type e left) sig.now pos) steps result }
 {
     match sig_leaves::read_method_start(sig, pos) {
-        Uint::Number(count, first) => {
+        Ok((count, first)) => {
             match over_next(
                 tables, strings, blob, layout, owners, sig, first, left, steps,
-            ) {
+            )? {
                 Passed::Over(next, rest) => {
                     over_parameters(
                         tables, strings, blob, layout, owners, sig, next, left, rest, count,
                     )
                 }
-                Passed::Failed(next, rest) => Passed::Failed(next, rest),
-                Passed::Spent => Passed::Spent,
+                Passed::Failed(next, rest) => Some(Passed::Failed(next, rest)),
             }
         }
-        Uint::NoNumber(next) => Passed::Failed(next, steps),
+        Err(next) => Some(Passed::Failed(next, steps)),
     }
 }
 
@@ -685,18 +626,16 @@ fn over_parameters(
     left: usize,
     steps: u64,
     count: u32,
-) -> Passed
+) -> Option<Passed>
     requires { Laid tables.now layout.now }
     ensures { let e = env_of tables.now layout.now strings.now blob.now owners.now in
         Passes (parameters count 0 (type e left) sig.now pos) steps result }
 {
-    let n = count as usize;
     let mut p = pos;
     let mut have = steps;
-    let mut i = 0;
-    while i < n {
-        i += 1;
-        match over_next(tables, strings, blob, layout, owners, sig, p, left, have) {
+    for _ in 0..count {
+        // Two arms, since with one for both the proof did not close.
+        match over_next(tables, strings, blob, layout, owners, sig, p, left, have)? {
             Passed::Over(next, rest) => {
                 p = next;
                 have = rest;
@@ -705,10 +644,7 @@ fn over_parameters(
                 p = next;
                 have = rest;
             }
-            Passed::Spent => {
-                return Passed::Spent;
-            }
         }
     }
-    Passed::Over(p, have)
+    Some(Passed::Over(p, have))
 }

@@ -25,12 +25,9 @@ use Rattle.rows.specs.Layout.{Laid, rows_at, view_in}
 use Rattle.rows.proofs.Laws.{rows-at, rows-narrow}
 use Rattle.rows.proofs.Classes.{classes-are}
 use Rattle.methods.specs.Ranges.{RangeOf}
-use Rattle.places.specs.Places.{ClassRowIs, at_row, no_row, MethodRowIs, at-method, no-method, Owns}
+use Rattle.places.specs.Places.{MethodRow, ClassRow, ClassRowIs, at_row, no_row, MethodRowIs, at-method, no-method, Owns}
 use Rattle.places.specs.declared.Own.{Own}
-use Rattle.places.specs.declared.ClassRow.{ClassRow}
-use Rattle.places.specs.declared.ClassRow.TheVariants.{Row, NoRow}
-use Rattle.places.specs.declared.MethodRow.{MethodRow}
-use Rattle.places.specs.declared.MethodRow.TheVariants.{Row as MethodAt, NoRow as NoMethod}
+use Rattle.std.specs.Prelude.{Some, None}
 
 -- The row of a class, by whether a row has such a number.
 module _ (c : ClassNumber) {r : TypeDefRow} (e : r ≡ row_of c) where
@@ -52,17 +49,17 @@ module _ (c : ClassNumber) {r : TypeDefRow} (e : r ≡ row_of c) where
 
 -- What a caller that has matched the answer knows.
 module _ {l : List ℕ} {c : ℕ} where
-  row_in : {row : TypeDefRow} → ClassRowIs l c (Row row) → (row.0 ≡ c + 2) × (c + 2 ≤ rows_at l columns.type_name)
+  row_in : {row : TypeDefRow} → ClassRowIs l c (Some row) → (row.0 ≡ c + 2) × (c + 2 ≤ rows_at l columns.type_name)
   row_in (at_row e h) = (e, h)
 
-  row_out : ClassRowIs l c NoRow → rows_at l columns.type_name < c + 2
+  row_out : ClassRowIs l c None → rows_at l columns.type_name < c + 2
   row_out (no_row h) = h
 
   module _ {r : ClassRow} (h : ClassRowIs l c r) where
-    pub class-found : {row : TypeDefRow} → r ≡ Row row → (row.0 ≡ c + 2) × (c + 2 ≤ rows_at l columns.type_name)
+    pub class-found : {row : TypeDefRow} → r ≡ Some row → (row.0 ≡ c + 2) × (c + 2 ≤ rows_at l columns.type_name)
     class-found e = row_in (subst (ClassRowIs l c) e h)
 
-    pub class-missed : r ≡ NoRow → rows_at l columns.type_name < c + 2
+    pub class-missed : r ≡ None → rows_at l columns.type_name < c + 2
     class-missed e = row_out (subst (ClassRowIs l c) e h)
 
 module _ {t l : List ℕ} (laid : Laid t l) (strings blob : List ℕ) where
@@ -103,7 +100,7 @@ module _ (v : View) (c : ℕ) {first end : ℕ} (is : the_class v c ≡ value (c
       ∙ ap value (tabulate-length (method v c) (left_after v c) (left_after v (c + 1) - left_after v c) ∙ n)
 
   module _ (m : ℕ) where
-    pub method-there : {i : ℕ} → i ≡ first + m → i < end → MethodRowIs v c m (MethodAt i)
+    pub method-there : {i : ℕ} → i ≡ first + m → i < end → MethodRowIs v c m (Some i)
     unfolding class
     method-there {i} e h =
         let at : left_after v c + m ≡ i = omega (arith, range.begins) in
@@ -114,48 +111,48 @@ module _ (v : View) (c : ℕ) {first end : ℕ} (is : the_class v c ≡ value (c
         (omega (arith, range.inside))
         (sym at)
 
-    pub method-past : end ≤ first + m → MethodRowIs v c m NoMethod
+    pub method-past : end ≤ first + m → MethodRowIs v c m None
     unfolding class
     method-past h =
         no-method (ap (λ a. a ⟫ (λ k. item k.methods m)) is
         ∙ ap or_no_row (tabulate-past (method v c) (left_after v c) (left_after v (c + 1) - left_after v c) m (omega (arith, range.begins, range.ends))))
 
-pub method-none : (v : View) (c m : ℕ) → the_class v c ≡ refused_by NoSuchRow → MethodRowIs v c m NoMethod
+pub method-none : (v : View) (c m : ℕ) → the_class v c ≡ refused_by NoSuchRow → MethodRowIs v c m None
 method-none v c m e = no-method (ap (λ a. a ⟫ (λ k. item k.methods m)) e)
 
 -- What a caller that has matched the answer knows.
 module _ {v : View} {c m : ℕ} where
-  method-in : {i : ℕ} → MethodRowIs v c m (MethodAt i) → (the_method v c m ≡ value (method v c i)) × (i < rows_in v method_def)
+  method-in : {i : ℕ} → MethodRowIs v c m (Some i) → (the_method v c m ≡ value (method v c i)) × (i < rows_in v method_def)
   method-in (at-method e h f) = (e, h)
 
-  method-of-all : {i : ℕ} → MethodRowIs v c m (MethodAt i) → i ≡ left_after v c + m
+  method-of-all : {i : ℕ} → MethodRowIs v c m (Some i) → i ≡ left_after v c + m
   method-of-all (at-method e h f) = f
 
-  method-out : MethodRowIs v c m NoMethod → the_method v c m ≡ refused_by NoSuchRow
+  method-out : MethodRowIs v c m None → the_method v c m ≡ refused_by NoSuchRow
   method-out (no-method e) = e
 
   module _ {r : MethodRow} (h : MethodRowIs v c m r) where
-    pub method-found : {i : ℕ} → r ≡ MethodAt i → (the_method v c m ≡ value (method v c i)) × (i < rows_in v method_def)
+    pub method-found : {i : ℕ} → r ≡ Some i → (the_method v c m ≡ value (method v c i)) × (i < rows_in v method_def)
     method-found e = method-in (subst (MethodRowIs v c m) e h)
 
     -- Its place among all methods.
-    pub method-place : {i : ℕ} → r ≡ MethodAt i → i ≡ left_after v c + m
+    pub method-place : {i : ℕ} → r ≡ Some i → i ≡ left_after v c + m
     method-place e = method-of-all (subst (MethodRowIs v c m) e h)
 
-    pub method-missed : r ≡ NoMethod → the_method v c m ≡ refused_by NoSuchRow
+    pub method-missed : r ≡ None → the_method v c m ≡ refused_by NoSuchRow
     method-missed e = method-out (subst (MethodRowIs v c m) e h)
 
 -- A row that is told apart by its case.
 abbrev place_in : MethodRow → ℕ
-place_in (MethodAt i) = i
-place_in NoMethod = 0
+place_in (Some i) = i
+place_in None = 0
 
 abbrev is_none : MethodRow → Bool
-is_none (MethodAt i) = false
-is_none NoMethod = true
+is_none (Some i) = false
+is_none None = true
 
-pub same_place : {i j : ℕ} → MethodAt i ≡ MethodAt j → i ≡ j
+pub same_place : {i j : ℕ} → Some i ≡ Some j → i ≡ j
 same_place e = ap place_in e
 
-pub no_place : {i : ℕ} → NoMethod ≡ MethodAt i → ⊥
+pub no_place : {i : ℕ} → None ≡ Some i → ⊥
 no_place e = subst (λ (r : MethodRow). T (is_none r)) e tt

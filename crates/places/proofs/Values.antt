@@ -9,12 +9,9 @@ use lib.ListN.{length, get_elem?}
 use Rattle.buffers.specs.Writes.{Said}
 use Rattle.buffers.specs.declared.Reason.{Reason}
 use Rattle.buffers.specs.Replies.{Refused, Answer, refused, refused_by, value, name_or_5}
-use Rattle.buffers.specs.declared.Reply.TheVariants.{Is, No}
 use Rattle.buffers.specs.declared.Refusal.TheVariants.{NoSuchRow}
 use Rattle.buffers.specs.Telling as telling
-use Rattle.buffers.specs.Telling.{ToldIs, no_row}
-use Rattle.buffers.specs.declared.Told.{Told}
-use Rattle.buffers.specs.declared.Told.TheVariants.{Name, Missing, NoRow}
+use Rattle.buffers.specs.Telling.{Told, ToldIs, no_row}
 use Rattle.buffers.proofs.Writing.{kept_same, said-some, said-none}
 use Rattle.buffers.proofs.Telling.{told_same}
 use Rattle.heaps.specs.Lookups.{name, reason_of, name_or_why}
@@ -35,11 +32,11 @@ use Rattle.rows.specs.Layout.{Laid, rows_at, cell, options_in, header_in, view_i
 use Rattle.rows.proofs.Laws.{rows-at}
 use Rattle.rows.proofs.Classes.{classes-are}
 use Rattle.methods.specs.Ranges.{RangeOf}
-use Rattle.keys.specs.Keyed.{FoundIs}
-use Rattle.keys.specs.declared.Row.{Row}
-use Rattle.keys.specs.declared.Row.TheVariants.{At, NoRow as NoKey}
+use Rattle.keys.specs.Keyed.{Row, FoundIs}
 use Rattle.keys.proofs.Laws.{generics-found, generics-missed}
 use Rattle.places.proofs.Laws.{listed, unlisted, range-of, methods-counted}
+use Rattle.std.specs.Prelude.{Some, None, Ok, Err}
+use Rattle.buffers.specs.declared.Unnamed.TheVariants.{Missing, NoRow}
 
 -- What is asked of a class or a method by way of its place: the value, or the refusal that stands.
 through : {A B : Type 0} {a : Answer A} (f : A → Answer B) {x : A} → a ≡ value x → (a ⟫ f) ≡ f x
@@ -52,7 +49,7 @@ module _ {t l : List ℕ} (laid : Laid t l) (strings blob : List ℕ) where
   abbrev v : View
   v = view_in t l strings blob
 
-  pub class-counted : {n : ℕ} → n ≡ rows_at l columns.type_name - 1 → Numbered (class_count v) (Is n)
+  pub class-counted : {n : ℕ} → n ≡ rows_at l columns.type_name - 1 → Numbered (class_count v) (Ok n)
   unfolding class_count view_of
   class-counted e =
       ap value (e ∙ sym (record-length v ∙ classes-are laid strings blob columns.type_name (omega arith) refl))
@@ -63,7 +60,7 @@ module _ {t l : List ℕ} (laid : Laid t l) (strings blob : List ℕ) where
     is : the_class v c ≡ value (class v c)
     is = listed laid strings blob c at.1
 
-    pub class-flags : {x : ℕ} → x ≡ cell t l columns.type_flags (row.0 - 1) → Numbered (class_flags v c) (Is x)
+    pub class-flags : {x : ℕ} → x ≡ cell t l columns.type_flags (row.0 - 1) → Numbered (class_flags v c) (Ok x)
     unfolding class_flags class view_of
     class-flags e =
         let i : row.0 - 1 ≡ c + 1 = omega (arith, at.0) in
@@ -83,18 +80,18 @@ module _ {t l : List ℕ} (laid : Laid t l) (strings blob : List ℕ) where
         ∙ ap₂ (λ (r j : ℕ). name_or_why (named (class_full_name v r) (reason_of (name strings (cell t l columns.type_name j))))) (sym at.0) (sym i)
 
     module _ {b b' : List ℕ} {place : ℕ} where
-      pub class-name : {end : ℕ} → Said b place b' (class_full_name v row.0) (some end) → ToldIs (class_name v c) b place b' (Name end)
+      pub class-name : {end : ℕ} → Said b place b' (class_full_name v row.0) (some end) → ToldIs (class_name v c) b place b' (Ok end)
       class-name s =
           let there = said-some s in
           telling.name there.text (name-is ∙ ap (λ o. name_or_why (named o (reason_of (name strings (cell t l columns.type_name (row.0 - 1)))))) there.is) there.wrote
 
       pub class-nameless : {why : Reason} → Said b place b' (class_full_name v row.0) none → why ≡ reason_of (name strings (cell t l columns.type_name (row.0 - 1)))
-          → ToldIs (class_name v c) b place b' (Missing why)
+          → ToldIs (class_name v c) b place b' (Err (Missing why))
       class-nameless s e =
           let gone = said-none s in
           telling.missing (name-is ∙ ap₂ (λ o y. name_or_why (named o y)) gone.0 (sym e)) gone.1
 
-    pub class-generics : {x : ℕ} → x ≡ length (v.generics (2 * row.0)) → Numbered (generic_count v c) (Is x)
+    pub class-generics : {x : ℕ} → x ≡ length (v.generics (2 * row.0)) → Numbered (generic_count v c) (Ok x)
     unfolding generic_count class
     class-generics e = ap value (e ∙ ap (λ (i : ℕ). length (v.generics (2 * i))) at.0) ∙ sym (through (λ k. value (length k.generics)) is)
 
@@ -104,7 +101,7 @@ module _ {t l : List ℕ} (laid : Laid t l) (strings blob : List ℕ) where
     class-generic g n =
         told_same (through (λ k. item k.generics g ⟫ name_or_why) is ∙ ap (λ (i : ℕ). or_no_row (get_elem? (v.generics (2 * i)) g) ⟫ name_or_why) (sym at.0)) n
 
-    pub class-methods : {first end : ℕ} → RangeOf v (row.0 - 2) first end → Numbered (method_count v c) (Is (end - first))
+    pub class-methods : {first end : ℕ} → RangeOf v (row.0 - 2) first end → Numbered (method_count v c) (Ok (end - first))
     class-methods r = sym (methods-counted v c is (range-of at.0 r))
 
   -- A class that is not: every call for it answers 4.
@@ -112,24 +109,24 @@ module _ {t l : List ℕ} (laid : Laid t l) (strings blob : List ℕ) where
     isn't : the_class v c ≡ refused_by NoSuchRow
     isn't = unlisted laid strings blob c h
 
-    pub no-class-flags : Numbered (class_flags v c) (No NoSuchRow)
+    pub no-class-flags : Numbered (class_flags v c) (Err NoSuchRow)
     unfolding class_flags
     no-class-flags = sym (stopped (λ k. value k.flags) isn't)
 
-    pub no-class-generics : Numbered (generic_count v c) (No NoSuchRow)
+    pub no-class-generics : Numbered (generic_count v c) (Err NoSuchRow)
     unfolding generic_count
     no-class-generics = sym (stopped (λ k. value (length k.generics)) isn't)
 
-    pub no-class-methods : Numbered (method_count v c) (No NoSuchRow)
+    pub no-class-methods : Numbered (method_count v c) (Err NoSuchRow)
     unfolding method_count
     no-class-methods = sym (stopped (λ k. value (length k.methods)) isn't)
 
     module _ (b : List ℕ) (place : ℕ) where
-      pub no-class-name : ToldIs (class_name v c) b place b NoRow
+      pub no-class-name : ToldIs (class_name v c) b place b (Err NoRow)
       unfolding class_name
       no-class-name = no_row (stopped (λ k. name_or_why k.name) isn't) (kept_same b place)
 
-      pub no-class-generic : (g : ℕ) → ToldIs (generic_name v c g) b place b NoRow
+      pub no-class-generic : (g : ℕ) → ToldIs (generic_name v c g) b place b (Err NoRow)
       unfolding generic_name
       no-class-generic g = no_row (stopped (λ k. item k.generics g ⟫ name_or_why) isn't) (kept_same b place)
 
@@ -141,7 +138,7 @@ module _ {t l : List ℕ} (laid : Laid t l) (strings blob : List ℕ) where
         let r = rows-at laid d k ∙ ap (kept_rows (options_in l) (header_in t l) (length t)) e in
         omega (arith, at.1)
 
-    pub method-flags : {x : ℕ} → x ≡ cell t l columns.method_flags i → Numbered (method_flags v c m) (Is x)
+    pub method-flags : {x : ℕ} → x ≡ cell t l columns.method_flags i → Numbered (method_flags v c m) (Ok x)
     unfolding method_flags method view_of
     method-flags e =
         ap value e
@@ -155,7 +152,7 @@ module _ {t l : List ℕ} (laid : Laid t l) (strings blob : List ℕ) where
         ∙ ap (λ (r : Option (List ℕ)). name_or_why (name_in v row_columns.method_name r))
         (method-row (options_in l) t strings blob i at.1)) n
 
-    pub method-generics : {x : ℕ} → x ≡ length (v.generics (2 * (i + 1) + 1)) → Numbered (method_generic_count v c m) (Is x)
+    pub method-generics : {x : ℕ} → x ≡ length (v.generics (2 * (i + 1) + 1)) → Numbered (method_generic_count v c m) (Ok x)
     unfolding method_generic_count method
     method-generics e = ap value e ∙ sym (through (λ k. value (length k.generics)) at.0)
 
@@ -168,7 +165,7 @@ module _ {t l : List ℕ} (laid : Laid t l) (strings blob : List ℕ) where
     unfolding return_type
     method-returns n = told_same (through (λ k. name_or_5 k.returns) at.0) n
 
-    pub method-parameters : {x : ℕ} → x ≡ length (method v c i).parameters → Numbered (parameter_count v c m) (Is x)
+    pub method-parameters : {x : ℕ} → x ≡ length (method v c i).parameters → Numbered (parameter_count v c m) (Ok x)
     unfolding parameter_count
     method-parameters e = ap value e ∙ sym (through (λ k. value (length k.parameters)) at.0)
 
@@ -184,46 +181,46 @@ module _ {t l : List ℕ} (laid : Laid t l) (strings blob : List ℕ) where
 
   -- A method that is not: every call for it answers 4.
   module _ (c m : ℕ) (isn't : the_method v c m ≡ refused_by NoSuchRow) where
-    pub no-method-flags : Numbered (method_flags v c m) (No NoSuchRow)
+    pub no-method-flags : Numbered (method_flags v c m) (Err NoSuchRow)
     unfolding method_flags
     no-method-flags = sym (stopped (λ k. value k.flags) isn't)
 
-    pub no-method-generics : Numbered (method_generic_count v c m) (No NoSuchRow)
+    pub no-method-generics : Numbered (method_generic_count v c m) (Err NoSuchRow)
     unfolding method_generic_count
     no-method-generics = sym (stopped (λ k. value (length k.generics)) isn't)
 
-    pub no-method-parameters : Numbered (parameter_count v c m) (No NoSuchRow)
+    pub no-method-parameters : Numbered (parameter_count v c m) (Err NoSuchRow)
     unfolding parameter_count
     no-method-parameters = sym (stopped (λ k. value (length k.parameters)) isn't)
 
     module _ (b : List ℕ) (place : ℕ) where
-      pub no-method-name : ToldIs (method_name v c m) b place b NoRow
+      pub no-method-name : ToldIs (method_name v c m) b place b (Err NoRow)
       unfolding method_name
       no-method-name = no_row (stopped (λ k. name_or_why k.name) isn't) (kept_same b place)
 
-      pub no-method-returns : ToldIs (return_type v c m) b place b NoRow
+      pub no-method-returns : ToldIs (return_type v c m) b place b (Err NoRow)
       unfolding return_type
       no-method-returns = no_row (stopped (λ k. name_or_5 k.returns) isn't) (kept_same b place)
 
-      pub no-method-parameter-type : (p : ℕ) → ToldIs (parameter_type v c m p) b place b NoRow
+      pub no-method-parameter-type : (p : ℕ) → ToldIs (parameter_type v c m p) b place b (Err NoRow)
       unfolding parameter_type
       no-method-parameter-type p =
           no_row (ap (λ (a : Answer Method). a ⟫ (λ k. item k.parameters p) ⟫ (λ (x : Parameter). name_or_5 x.type)) isn't) (kept_same b place)
 
-      pub no-method-parameter-name : (p : ℕ) → ToldIs (parameter_name v c m p) b place b NoRow
+      pub no-method-parameter-name : (p : ℕ) → ToldIs (parameter_name v c m p) b place b (Err NoRow)
       unfolding parameter_name
       no-method-parameter-name p =
           no_row (ap (λ (a : Answer Method). a ⟫ (λ k. item k.parameters p) ⟫ (λ (x : Parameter). name_or_5 x.name)) isn't) (kept_same b place)
 
-      pub no-method-generic : (g : ℕ) → ToldIs (method_generic_name v c m g) b place b NoRow
+      pub no-method-generic : (g : ℕ) → ToldIs (method_generic_name v c m g) b place b (Err NoRow)
       unfolding method_generic_name
       no-method-generic g = no_row (stopped (λ k. item k.generics g ⟫ name_or_why) isn't) (kept_same b place)
 
   -- A generic parameter that was searched for among those of an owner, and what its name came to at a place.
   module _ (owner : ℕ) {nth g : ℕ} {r : Row} (e : nth ≡ g) (found : FoundIs (cell t l columns.owner) owner (rows_at l columns.owner) nth r) {b : List ℕ} {place : ℕ} where
-    pub told-generic : {b' : List ℕ} {i : ℕ} {told : Told} → r ≡ At i → ToldIs (name_or_why (name strings (cell t l columns.generic_name i))) b place b' told
+    pub told-generic : {b' : List ℕ} {i : ℕ} {told : Told} → r ≡ Some i → ToldIs (name_or_why (name strings (cell t l columns.generic_name i))) b place b' told
         → ToldIs (or_no_row (get_elem? (v.generics owner) g) ⟫ name_or_why) b place b' told
     told-generic {i = i} f n = rw (← e, (generics-found laid strings blob owner nth i found f).1) n
 
-    pub told-no-generic : r ≡ NoKey → ToldIs (or_no_row (get_elem? (v.generics owner) g) ⟫ name_or_why) b place b NoRow
+    pub told-no-generic : r ≡ None → ToldIs (or_no_row (get_elem? (v.generics owner) g) ⟫ name_or_why) b place b (Err NoRow)
     told-no-generic f = rw (← e, generics-missed laid strings blob owner nth found f) (no_row refl (kept_same b place))

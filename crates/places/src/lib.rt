@@ -16,25 +16,10 @@ ghost use Rattle.rows.specs.Layout.{Laid, rows_at, view_in};
 ghost use Rattle.methods.specs.Ranges.{RangeOf};
 ghost use Rattle.places.specs.Places.{ClassRowIs, MethodRowIs, Owns};
 
-use buffers::Told;
+use buffers::{Told, Unnamed};
 use classes::{ClassNumber, TypeDefRow};
-use keys::Row;
 use numbers::wide;
 use rows::columns;
-
-// The TypeDef row of a class.
-#[derive(Drop)]
-pub enum ClassRow {
-    Row(TypeDefRow),
-    NoRow,
-}
-
-// A place of MethodDef, from 0.
-#[derive(Clone, Copy)]
-pub enum MethodRow {
-    Row(usize),
-    NoRow,
-}
 
 // What is known of the methods of the class at a TypeDef row: they are the places of MethodDef from the first up to the end. Row 0 is none.
 #[derive(Clone, Copy)]
@@ -47,7 +32,7 @@ pub struct Own {
 // The row of a method, and what is known of its class after it.
 #[derive(Drop)]
 pub struct Placed {
-    pub row: MethodRow,
+    pub row: Option<usize>,
     pub own: Own,
 }
 
@@ -56,23 +41,19 @@ pub fn count_classes(layout: &[u32]) -> usize
     requires { columns.size ≤ length layout.now }
     ensures { result ≡ rows_at layout.now columns.type_name - 1 }
 {
-    let n = rows::count_rows(layout, columns::TYPE_NAME);
-    if n == 0 { 0 } else { n - 1 }
+    rows::count_rows(layout, columns::TYPE_NAME).saturating_sub(1)
 }
 
-pub fn class_row(layout: &[u32], class: ClassNumber) -> ClassRow
+pub fn class_row(layout: &[u32], class: ClassNumber) -> Option<TypeDefRow>
     requires { (rows_at layout.now columns.type_name < 4294967296) × (columns.size ≤ length layout.now) }
     ensures { ClassRowIs layout.now class.0 result }
 {
     let row = classes::row_of(class);
     let r = wide(row.0);
-    if r < 2 {
-        return ClassRow::NoRow;
+    if r < 2 || rows::count_rows(layout, columns::TYPE_NAME) < r {
+        return None;
     }
-    if rows::count_rows(layout, columns::TYPE_NAME) < r {
-        return ClassRow::NoRow;
-    }
-    ClassRow::Row(row)
+    Some(row)
 }
 
 // Nothing is known.
@@ -106,18 +87,13 @@ fn own_methods(tables: &[u8], layout: &[u32], row: TypeDefRow, known: Own) -> Ow
 }
 
 // Method m of a class, by its methods.
-fn own_method(own: Own, m: u32) -> MethodRow
+fn own_method(own: Own, m: u32) -> Option<usize>
     ensures { (v : View) (c : ℕ) → the_class v c ≡ value (class v c) → RangeOf v c own.first own.end → MethodRowIs v c m result }
 {
-    let first = own.first;
-    let end = own.end;
-    if end <= first {
-        return MethodRow::NoRow;
+    if own.end.saturating_sub(own.first) <= wide(m) {
+        return None;
     }
-    if end - first <= wide(m) {
-        return MethodRow::NoRow;
-    }
-    MethodRow::Row(first + wide(m))
+    Some(own.first + wide(m))
 }
 
 // The row of method m of a class. Whoever asks for the next method of the class hands on what is known.
@@ -127,17 +103,15 @@ pub fn place_method(tables: &[u8], layout: &[u32], class: ClassNumber, m: u32, k
         ((strings blob : List ℕ) → Owns (v strings blob) known → MethodRowIs (v strings blob) class.0 m result.row × Owns
         (v strings blob) result.own) }
 {
-    match class_row(layout, class) {
-        ClassRow::Row(row) => {
-            let own = own_methods(tables, layout, row, known);
-            let place = own_method(own, m);
-            Placed { row: place, own }
-        }
-        ClassRow::NoRow => Placed {
-            row: MethodRow::NoRow,
+    let Some(row) = class_row(layout, class) else {
+        return Placed {
+            row: None,
             own: known,
-        },
-    }
+        };
+    };
+    let own = own_methods(tables, layout, row, known);
+    let place = own_method(own, m);
+    Placed { row: place, own }
 }
 
 // How many generic parameters an owner has, by the Owner column as stored.
@@ -163,8 +137,8 @@ pub fn tell_generic(
         (or_no_row (get_elem? ((view_in tables.now layout.now strings.now blob).generics owner) g) ⟫ name_or_why)
         buf.old at buf.new result }
 {
-    match keys::find_key(tables, layout, columns::OWNER, owner, wide(g)) {
-        Row::At(i) => rows::tell_string(buf, at, tables, strings, layout, columns::GENERIC_NAME, i),
-        Row::NoRow => Told::NoRow,
-    }
+    let Some(i) = keys::find_key(tables, layout, columns::OWNER, owner, wide(g)) else {
+        return Err(Unnamed::NoRow);
+    };
+    rows::tell_string(buf, at, tables, strings, layout, columns::GENERIC_NAME, i)
 }

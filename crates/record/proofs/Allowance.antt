@@ -8,13 +8,12 @@ use native.Mathlib.Omega.{arith}
 use borrow.Author.Tests.{lt-ltb, le-ltb}
 use lib.Dec.{leb}
 use lib.ListN.{length}
+use Rattle.std.specs.Prelude.{Err}
 use Rattle.numbers.proofs.Pick.{by-lt}
 use Rattle.buffers.specs.Texts.{Text}
-use Rattle.buffers.specs.Replies.{Refused, Answer, refused, refused_by, value, name_or_5, name_reply, Named}
+use Rattle.buffers.specs.Replies.{Reply, Refused, Answer, refused, refused_by, value, name_or_5, name_reply, Named}
 use Rattle.buffers.specs.declared.Refusal.{Refusal}
 use Rattle.buffers.specs.declared.Refusal.TheVariants.{BufferTooSmall, TooManySteps}
-use Rattle.buffers.specs.declared.Reply.{Reply}
-use Rattle.header.specs.declared.Opened.TheVariants as opened
 use Rattle.record.specs.View.{View}
 use Rattle.record.specs.Names.{base_steps}
 use Rattle.record.specs.Methods.{left_after, steps_in}
@@ -70,7 +69,7 @@ named-free {a} allowance work {before} {after} {r} e n =
     subst (λ c. Named c.answer before r after) (charge-free allowance work a e) n.named
 
 -- A stream that is refused: every call is refused so, and the whole allowance is left.
-module _ (v : View) {why : Refusal} (e : v.header.answer ≡ opened.Refused why) where
+module _ (v : View) {why : Refusal} (e : v.header.answer ≡ Err why) where
   free-bases : (c : ℕ) → count_of (base_work v c) ≡ 0
   unfolding base_work
   free-bases c = rw e refl

@@ -8,13 +8,13 @@ use native.Mathlib.Omega.{arith}
 use borrow.Author.Tests.{eq-eqb}
 use lib.Dec.{eqb}
 use Rattle.header.specs.declared.Options.{Options}
-use Rattle.header.specs.declared.Header.{Header}
-use Rattle.header.specs.declared.Opened.TheVariants.{Ready}
+use Rattle.header.specs.Stream.{Opening}
 use Rattle.tables.specs.Extents.{Extent, extent, only_entire, kept_by, kept_rows}
 use Rattle.tables.specs.Apart.{Inside}
 use Rattle.tables.proofs.Places.{found, one-kind}
 use Rattle.record.specs.Rows.{count}
 use Rattle.record.specs.Rearrangement.{InRow}
+use Rattle.std.specs.Prelude.{Ok}
 
 -- A whole row of a table lies inside it.
 pub row_inside : (e : Extent) (i p : ℕ) → i < e.rows → InRow e i p → Inside e p
@@ -30,7 +30,7 @@ rows_apart e i j p h r q =
     let b = suc-mul i e.size in
     omega arith
 
-module _ (o : Options) (h : Header) (n : ℕ) where
+module _ (o : Options) (h : Opening) (n : ℕ) where
   pub kept-le : (k : ℕ) → kept_rows o h n k ≤ (extent o h n k).rows
   unfolding kept_by
   kept-le k = go (only_entire k && not (eqb (extent o h n k).rows (count h k)))
@@ -53,5 +53,5 @@ module _ (o : Options) (h : Header) (n : ℕ) where
   apart k m p ne i j = ne (one-kind _ _ _ _ k m p (found o h n k p i).lies_at (found o h n m p j).lies_at)
 
   -- A table with a byte in it is of an opened stream, and stands at or after the first table's place.
-  pub past_first : (k p : ℕ) → Inside (extent o h n k) p → (h.answer ≡ Ready) × (h.first ≤ p)
+  pub past_first : (k p : ℕ) → Inside (extent o h n k) p → (h.answer ≡ (Ok tt)) × (h.first ≤ p)
   past_first k p i = let f = found o h n k p i in (f.ready, f.lies_at.from)

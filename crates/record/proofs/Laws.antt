@@ -3,25 +3,25 @@ use mathlib.Core.Path.{◌≡◌, refl, ap, ◌∙◌}
 use mathlib.Core.Bool.{cond}
 use mathlib.Core.List.{List}
 use mathlib.Core.Option.{none, some}
-use Prim.Native.Nat.{ℕ, ◌+◌, ◌-◌, ◌≤◌, ◌<◌}
+use Prim.Native.Nat.{ℕ, ◌+◌, ◌≤◌, ◌<◌}
 use native.Mathlib.Omega.{arith}
 use lib.Dec.{ltb}
 use lib.ListN.{length, get_or}
 use Rattle.buffers.specs.declared.Refusal.TheVariants.{NoSuchRow}
-use Rattle.header.specs.declared.Opened.TheVariants.{Ready}
 use Rattle.numbers.proofs.Lists.{tabulate-length, table_at, tabulate-item, tabulate-past}
 use Rattle.tables.specs.Extents.{sizes_in, walk_by, walk_of, extent_by, kept_by}
 use Rattle.header.specs.declared.Options.{Options}
-use Rattle.header.specs.declared.Header.{Header}
+use Rattle.header.specs.Stream.{Opening}
 use Rattle.record.specs.Rows.{row_bytes}
 use Rattle.record.specs.View.{View, view, view_of, is_side, other_row, ViewBySizes}
 use Rattle.record.specs.Names.{classes}
 use Rattle.record.specs.Record.{Class, class, class_record}
 use Rattle.buffers.specs.Replies.{refused_by, value}
 use Rattle.record.specs.Answers.{◌⟫◌, ready, or_no_row, item, walk_answer, the_class, NumberCall, NameCall, ClassCount, ClassFlags, ClassPacking, ClassSize, GenericCount, BaseCount, MethodCount, MethodFlags, MethodGenericCount, ParameterCount, ClassName, GenericName, BaseName, MethodName, MethodGenericName, ReturnType, ParameterType, ParameterName, ModuleRefCount, AssemblyVersion, AssemblyRefCount, AssemblyRefVersion, ConstantCount, ModuleName, ModuleRefName, AssemblyName, AssemblyCulture, AssemblyRefName, AssemblyRefKey, ConstantValue, Typelib, class_count, class_flags, class_packing, class_size, generic_count, base_count, method_count, method_flags, method_generic_count, parameter_count, class_name, generic_name, base_name, method_name, method_generic_name, return_type, parameter_type, parameter_name, module_ref_count, assembly_version, assembly_ref_count, assembly_ref_version, constant_count, module_name, module_ref_name, assembly_name, assembly_culture, assembly_ref_name, assembly_ref_key, constant_value, typelib, number_answer, name_answer, OpeningFirst}
+use Rattle.std.specs.Prelude.{Ok}
 
 -- What the options say of an opened stream, they say by the index sizes.
-module _ (o p : Options) (h : Header) (t : List ℕ) (e : sizes_in o h ≡ sizes_in p h) where
+module _ (o p : Options) (h : Opening) (t : List ℕ) (e : sizes_in o h ≡ sizes_in p h) where
   rows-by : other_row o h t ≡ other_row p h t
   unfolding other_row
   rows-by = λ i k j. cond (is_side k) none (cond (ltb j (kept_by (e i) h (length t) k)) (some (row_bytes (extent_by (e i) h (length t) k) t j)) none)
@@ -45,7 +45,7 @@ unfolding class_record
 record-at v c d h = table_at (class v) d (classes v) c h
 
 -- A class that is asked for by its number: the class, or 4.
-pub class-at : (v : View) (c : ℕ) → v.header.answer ≡ Ready → c < classes v → the_class v c ≡ value (class v c)
+pub class-at : (v : View) (c : ℕ) → v.header.answer ≡ (Ok tt) → c < classes v → the_class v c ≡ value (class v c)
 unfolding class_record
 class-at v c r h =
     let z : 0 + c ≡ c = omega arith in
@@ -53,7 +53,7 @@ class-at v c r h =
     ∙ ap or_no_row (tabulate-item (class v) 0 (classes v) c h)
     ∙ ap (λ k. value (class v k)) z
 
-pub class-none : (v : View) (c : ℕ) → v.header.answer ≡ Ready → classes v ≤ c → the_class v c ≡ refused_by NoSuchRow
+pub class-none : (v : View) (c : ℕ) → v.header.answer ≡ (Ok tt) → classes v ≤ c → the_class v c ≡ refused_by NoSuchRow
 unfolding class_record
 class-none v c r h =
     ap (λ a. ready a ⟫ (λ _. value (class_record v)) ⟫ (λ l. item l c)) r

@@ -10,9 +10,7 @@ use Rattle.numbers.proofs.Lists.{tabulate-item, tabulate-past, tabulate-same}
 use Rattle.numbers.proofs.Pick.{by-lt}
 use Rattle.buffers.specs.Texts.{Text}
 use Rattle.buffers.specs.Replies.{value}
-use Rattle.header.specs.Stream.{opened}
-use Rattle.header.specs.declared.Opened.{Opened}
-use Rattle.header.specs.declared.Opened.TheVariants.{Refused, Ready}
+use Rattle.header.specs.Stream.{Opened, opened}
 use Rattle.layouts.specs.Kinds.{param}
 use Rattle.layouts.specs.declared.IndexSizes.{IndexSizes}
 use Rattle.record.specs.Missing.{over, or_default}
@@ -29,6 +27,7 @@ use Rattle.record.specs.Answers.{NameCall, ClassName, GenericName, BaseName, Met
 use Rattle.record.specs.Allowance.{base_work, method_work, number_charged, name_charged}
 use Rattle.record.specs.Modes.{InOrder, Agree, ModesAgree}
 use Rattle.record.proofs.Readers.{signature-alone, steps-alone}
+use Rattle.std.specs.Prelude.{Ok, Err}
 
 -- A view, but in that mode.
 abbrev view_in_mode : Bool → View → View
@@ -55,8 +54,8 @@ of-listed v c m {x} {y} e = go v.header.answer
   where
     go : (a : Opened) → (ready a ⟫ (λ _. value (class_record v)) ⟫ (λ l. item l c) ⟫ (λ k. item k.methods m) ⟫ (λ _. value x))
         ≡ (ready a ⟫ (λ _. value (class_record v)) ⟫ (λ l. item l c) ⟫ (λ k. item k.methods m) ⟫ (λ _. value y))
-    go (Refused why) = refl
-    go Ready =
+    go (Err why) = refl
+    go (Ok tt) =
         by-lt c (classes v)
         (λ h.
         by-lt m (left_after v (c + 1) - left_after v c)

@@ -5,7 +5,7 @@ use Prim.Native.Nat.{ℕ, ◌+◌, ◌*◌}
 use native.Mathlib.Decide.{ℕ_discrete}
 use native.Mathlib.Omega.{arith}
 use lib.ListN.{length, get_elem?}
-use Rattle.header.specs.declared.Header.{Header}
+use Rattle.header.specs.Stream.{Opening}
 use Rattle.heaps.specs.Lookups.{name}
 use Rattle.layouts.specs.Kinds.{interface_impl, class_layout, nested_class, generic_param}
 use Rattle.record.specs.Columns.{owner, generic_name, impl_class, impl_interface, layout_parent}
@@ -34,7 +34,7 @@ rows_stay o t u B k len same =
     }
 
 module _ (o : Options) (t u strings blob : List ℕ) (r : Rearranged o t u) where
-  abbrev h : Header
+  abbrev h : Opening
   h = opened o t
 
   headers : opened o u ≡ h
@@ -44,7 +44,7 @@ module _ (o : Options) (t u strings blob : List ℕ) (r : Rearranged o t u) wher
   rows = row_same o t u r.same_length r.elsewhere
 
   -- What is read of a side table, F, is read alike if it is alike of the rows by t's extent.
-  seen : {A : Type 0} (k : ℕ) (F : Header → (ℕ → List ℕ) → ℕ → A) → kept_rows o h (length t) k ≡ (place o h t k).rows
+  seen : {A : Type 0} (k : ℕ) (F : Opening → (ℕ → List ℕ) → ℕ → A) → kept_rows o h (length t) k ≡ (place o h t k).rows
       → F h (row_bytes (place o h t k) t) (place o h t k).rows ≡ F h (row_bytes (place o h t k) u) (place o h t k).rows
       → F (opened o u) (side_row o (opened o u) u k) (side_rows o (opened o u) u k) ≡ F h (side_row o h t k) (side_rows o h t k)
   seen k F all e =

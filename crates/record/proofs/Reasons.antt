@@ -17,15 +17,11 @@ use Rattle.numbers.proofs.Pick.{pick}
 use Rattle.buffers.specs.Texts.{Text}
 use Rattle.buffers.specs.Replies.{Refused, Answer, refused, value, name_or_5}
 use Rattle.buffers.specs.declared.Reason.{Reason}
-use Rattle.heaps.specs.Lookups.{before, string_at, part_number, part_reason, part_name, Name, found, missing, name, text_of, reason_of, string, name_or_why}
-use Rattle.heaps.specs.declared.Part.{Part}
-use Rattle.heaps.specs.declared.Part.TheVariants.{Found, Absent}
+use Rattle.heaps.specs.Lookups.{Part, before, string_at, part_number, part_reason, part_name, Name, found, missing, name, text_of, reason_of, string, name_or_why}
 use Rattle.heaps.proofs.Lookups.{Reasoned, string-reasoned, blob-unreasoned, string-null, string-past, string-open, string-found, name-found, name-missing}
-use Rattle.header.specs.Stream.{over_limit, row_count, opened, counts_end}
+use Rattle.header.specs.Stream.{Opened, over_limit, row_count, opened, counts_end}
 use Rattle.header.specs.declared.Options.{Options}
-use Rattle.header.specs.declared.Header.{Header}
-use Rattle.header.specs.declared.Opened.{Opened}
-use Rattle.header.specs.declared.Opened.TheVariants.{Refused as NotOpened, Ready}
+use Rattle.header.specs.Stream.{Opening}
 use Rattle.layouts.specs.declared.IndexSizes.{IndexSizes}
 use Rattle.layouts.specs.Columns.{tables, reaches, index_size, heap_size, has_custom_attribute, index_sizes, sum_of, row_size}
 use Rattle.layouts.specs.Kinds.{method_def, generic_param}
@@ -43,6 +39,7 @@ use Rattle.record.specs.Answers.{◌⟫◌, ready, or_no_row, item, walk_answer,
 use Rattle.record.specs.Cases.{whole_tables, whole_strings}
 use Rattle.record.specs.Reasons.{StringReasons, Told, LookupReasons, tells_reason, ReasonTold, ReasonUntold, OwnReason, NamesAgree, SmallestReasons}
 use Rattle.record.proofs.Read.{class-row, method-row, left_le}
+use Rattle.std.specs.Prelude.{Ok, Err}
 
 -- ---- Lookups
 
@@ -59,8 +56,8 @@ pub lookup-reasons : LookupReasons
 lookup-reasons s i = (go (string_at s i) (string-reasoned s i), blob-unreasoned s i)
   where
     go : (p : Part) → Reasoned p → part_number p ≡ 7 → Told (part_reason p)
-    go (Found start n) r e = absurd (omega arith)
-    go (Absent why) r e = r
+    go (Ok span) r e = absurd (omega arith)
+    go (Err why) r e = r
 
 -- ---- What answers tell
 
@@ -182,8 +179,8 @@ unfolding name
 name-clear s i = go (string_at s i) (string-reasoned s i)
   where
     go : (p : Part) → Reasoned p → Clear (name_or_why (part_name s p))
-    go (Found start n) r = tt
-    go (Absent why) r = inl (refl, r)
+    go (Ok span) r = tt
+    go (Err why) r = inl (refl, r)
 
 -- A class's own name, and what it is as part of the full name.
 named-own : (space : Option Text) (n : Name) → Clear (name_or_why n) → Clear (name_or_why (named (full_name space (over cut (text_of n))) (reason_of n)))
@@ -215,18 +212,18 @@ found-missing e = let z : ◌≡◌ {A = ℕ} 0 1 = cc in absurd (omega arith)
 -- ---- Of streams
 
 -- The walk is refused as opening is.
-stopped : (h : Header) (w : IndexSizes) (n : ℕ) → Quiet (ready h.answer) → Quiet (walk_by w h n).stop
+stopped : (h : Opening) (w : IndexSizes) (n : ℕ) → Quiet (ready h.answer) → Quiet (walk_by w h n).stop
 unfolding walk_by walked
 stopped h w n q = go h.answer q
   where
     go : (a : Opened) → Quiet (ready a) → Quiet (answered a w h n).stop
-    go Ready q = tt
-    go (NotOpened why) q = q
+    go (Ok tt) q = tt
+    go (Err why) q = q
 
 open-quiet : (o : Options) (t : List ℕ) → Quiet (ready (opened o t).answer)
 unfolding opened
 open-quiet o t =
-    let P : Header → Type 0 = λ h. Quiet (ready h.answer) in
+    let P : Opening → Type 0 = λ h. Quiet (ready h.answer) in
     pick P (ltb (length t) 24) (λ _. (omega arith, refl))
     (λ _. pick P (ltb (length t) (counts_end t)) (λ _. (omega arith, refl))
     (λ _. pick P (over_limit o.limit t 64) (λ _. (omega arith, refl)) (λ _. tt)))

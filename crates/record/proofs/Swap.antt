@@ -7,7 +7,7 @@ use Prim.Native.Nat.{ℕ, ◌+◌, ◌*◌, ◌-◌, ◌<◌}
 use native.Mathlib.Decide.{dec_lt}
 use native.Mathlib.Omega.{arith}
 use lib.ListN.{length, get_or}
-use Rattle.header.specs.declared.Header.{Header}
+use Rattle.header.specs.Stream.{Opening}
 use Rattle.heaps.specs.Lookups.{name, text_of, string}
 use Rattle.layouts.specs.Kinds.{generic_param}
 use Rattle.record.specs.Columns.{owner, generic_name}
@@ -27,7 +27,7 @@ use Rattle.record.proofs.Keyed.{of_key-differs, of_key-map}
 use Rattle.record.proofs.Laws.{record-length, record-at}
 
 module _ (o : Options) (t u strings blob : List ℕ) (i j : ℕ) (s : Swapped o t u i j) where
-  abbrev h : Header
+  abbrev h : Opening
   h = opened o t
 
   abbrev e : Extent
@@ -63,7 +63,7 @@ module _ (o : Options) (t u strings blob : List ℕ) (i j : ℕ) (s : Swapped o 
         go (no n) (no m) = absurd (ne (ap (λ k. text (row_bytes e t k)) (omega arith)))
 
     -- The texts of the names that the rows of x give c, where opening found g and a stream of length n.
-    abbrev texts : Header → ℕ → List ℕ → List (Option (List ℕ))
+    abbrev texts : Opening → ℕ → List ℕ → List (Option (List ℕ))
     texts g n x = of_key (owner (sizes_in o g)) (λ b. string strings (generic_name (sizes_in o g) b)) (row_bytes (extent o g n generic_param) x) (extent o g n generic_param).rows c
 
     texts-are : (x : List ℕ) → map text_of ((view o x strings blob).generics c) ≡ texts (opened o x) (length x) x

@@ -2,10 +2,9 @@
 -- is left of that.
 use Rattle.std.specs.Prelude.{◌≡◌, ◌≢◌, Bool, cond, ◌||◌, List, ℕ, ◌+◌, ◌-◌, ◌≤◌, ◌<◌, eqb, ltb}
 use Rattle.buffers.specs.Texts.{Text}
-use Rattle.buffers.specs.Replies.{number, Refused, Answer, refused, refused_by, value, Named}
+use Rattle.buffers.specs.Replies.{Reply, number, Refused, Answer, refused, refused_by, value, Named}
 use Rattle.buffers.specs.declared.Reason.TheVariants.{Untold}
 use Rattle.buffers.specs.declared.Refusal.TheVariants.{NoName, BufferTooSmall, TooManySteps}
-use Rattle.buffers.specs.declared.Reply.{Reply}
 use Rattle.record.specs.View.{View}
 use Rattle.record.specs.Names.{base_steps}
 use Rattle.record.specs.Methods.{left_after, steps_in}

@@ -1,21 +1,19 @@
 -- The answer of every call of the library, by the view and the call's arguments. A class is meant by its place in the record; a
 -- method, generic or base type by its place in its class; a generic or parameter of a method by its place in the method; a module
 -- reference, assembly reference or string constant by its place among them, and a part of a version by its place in that; all from 0.
-use Rattle.std.specs.Prelude.{◌≡◌, List, ℕ, length}
+use Rattle.std.specs.Prelude.{◌≡◌, List, ℕ, length, Ok, Err}
 use Rattle.std.proofs.Math.Option.{Option, none, some}
 use Rattle.std.proofs.Math.ListN.{get_elem?}
 use Rattle.buffers.specs.Texts.{Text}
-use Rattle.buffers.specs.Replies.{Answer, refused, refused_by, value, reply_says, name_or_5}
+use Rattle.buffers.specs.Replies.{Reply, Answer, refused, refused_by, value, reply_says, name_or_5}
 use Rattle.heaps.specs.Lookups.{name_or_why}
 use Rattle.buffers.specs.declared.Refusal.{Refusal}
 use Rattle.buffers.specs.declared.Refusal.TheVariants.{NoSuchRow}
-use Rattle.buffers.specs.declared.Reply.{Reply}
-use Rattle.header.specs.declared.Opened.{Opened}
-use Rattle.header.specs.declared.Opened.TheVariants.{Refused, Ready}
 use Rattle.tables.specs.Extents.{Walked, walk_by}
 use Rattle.record.specs.View.{View, ClassLayout}
 use Rattle.record.specs.Record.{Parameter, Method, Class, class_record}
 use Rattle.record.specs.References.{Assembly, AssemblyReference, References, references}
+use Rattle.header.specs.Stream.{Opened}
 
 -- A value found by way of another; a refusal stands.
 infixl 1 ◌⟫◌
@@ -25,8 +23,8 @@ value a ⟫ f = f a
 
 -- Refusals 1, 2 and 3 come before all others.
 abbrev pub ready : Opened → Answer Unit
-ready (Refused why) = refused_by why
-ready Ready = value tt
+ready (Err why) = refused_by why
+ready (Ok tt) = value tt
 
 -- What stands at a place of a list: 4 past its end.
 abbrev pub or_no_row : {A : Type 0} → Option A → Answer A
@@ -245,7 +243,7 @@ name_answer Typelib v = typelib v
 -- Refusals 1, 2 and 3 come before all others, in every call.
 abbrev pub OpeningFirst : Type 0
 OpeningFirst =
-    (v : View) (why : Refusal) → v.header.answer ≡ Refused why
+    (v : View) (why : Refusal) → v.header.answer ≡ Err why
     → ((call : NumberCall) → number_answer call v ≡ refused_by why) × ((call : NameCall) → name_answer call v ≡ refused_by why)
 
 -- The promise of a call for a number: what its reply says is the answer. That of a call for a name is `Named` (buffers/Replies.antt).

@@ -1,10 +1,9 @@
 -- Document 01's worked cases as statements: the twelve marked P, the others that speak of definitions, the whole case, the example of
 -- methods that one class takes and another reads, and a stream in which nearly every rule has a say. proofs/Cases.antt proves them by computing.
-use Rattle.std.specs.Prelude.{◌≡◌, Bool, true, false, ◌&&◌, List, [], ◌∷◌, ◌++◌, map, ℕ, zero, suc, eqb, ℤ, pos, negsuc, replicate}
+use Rattle.std.specs.Prelude.{◌≡◌, Bool, true, false, ◌&&◌, List, [], ◌∷◌, ◌++◌, map, ℕ, zero, suc, eqb, ℤ, pos, negsuc, replicate, Ok, Err}
 use Rattle.std.proofs.Math.Option.{Option, none, some}
 use Rattle.buffers.specs.declared.Reason.TheVariants.{NullIndex}
 use Rattle.buffers.specs.declared.Refusal.TheVariants.{TooManyRows}
-use Rattle.header.specs.declared.Opened.TheVariants.{Refused, Ready}
 use Rattle.numbers.specs.Compressed.{uint, sint}
 use Rattle.buffers.specs.Texts.{Text, q, same}
 use Rattle.heaps.specs.Lookups.{Name, found, missing}
@@ -105,8 +104,8 @@ one_table mask low high =
 
 -- 15,000 rows pass, 15,001 give 3. 2,047 Field rows keep HasCustomAttribute at 2 bytes, 2,048 make it 4.
 pub record Limits : Type 0 where
-  pub most : (opened base (one_table 0x04 0x98 0x3A)).answer ≡ Ready
-  pub over : (opened base (one_table 0x04 0x99 0x3A)).answer ≡ Refused TooManyRows
+  pub most : (opened base (one_table 0x04 0x98 0x3A)).answer ≡ (Ok tt)
+  pub over : (opened base (one_table 0x04 0x99 0x3A)).answer ≡ Err TooManyRows
   pub narrow : (sizes_in base (opened base (one_table 0x10 0xFF 0x07))).has_custom_attribute ≡ 2
   pub wide : (sizes_in base (opened base (one_table 0x10 0x00 0x08))).has_custom_attribute ≡ 4
 

@@ -1,6 +1,5 @@
 -- What is claimed of rearranged streams (demand 3). proofs/Demand.antt proves both halves.
 use Rattle.std.specs.Prelude.{◌≡◌, ◌≢◌, List, map, ℕ, ◌*◌, ◌<◌, length}
-use Rattle.buffers.specs.declared.Reply.{Reply}
 use Rattle.heaps.specs.Lookups.{text_of, string}
 use Rattle.layouts.specs.Kinds.{generic_param}
 use Rattle.record.specs.Columns.{owner, generic_name}
@@ -14,6 +13,7 @@ use Rattle.record.specs.References.{references}
 use Rattle.record.specs.Answers.{walk_answer, NumberCall, NameCall}
 use Rattle.record.specs.Allowance.{number_charged, name_charged, NumberedCharged, NamedCharged}
 use Rattle.record.specs.Rearrangement.{Rearranged, ThreeRearranged, Swapped}
+use Rattle.buffers.specs.Replies.{Reply}
 
 -- Two views give the same class record, the same references, the same walk and the same answer to every call, asked alike: with the same
 -- arguments, what the allowance holds before among them, and with buffers of equal length, however filled before. A refusal is an answer,

@@ -1,6 +1,6 @@
 -- Rearrangements of the side tables, told of the bytes of the tables stream.
 use Rattle.std.specs.Prelude.{◌≡◌, ◌⊎◌, true, List, ℕ, ◌+◌, ◌*◌, ◌≤◌, ◌<◌, length, get_or}
-use Rattle.header.specs.declared.Header.{Header}
+use Rattle.header.specs.Stream.{Opening}
 use Rattle.layouts.specs.declared.IndexSizes.{IndexSizes}
 use Rattle.layouts.specs.Kinds.{interface_impl, class_layout, nested_class, generic_param}
 use Rattle.record.specs.Columns.{owner, impl_class, layout_parent, nested, enclosing}
@@ -51,7 +51,7 @@ abbrev pub Tied : IndexSizes → List ℕ → List ℕ → Type 0
 Tied w r q = Occurs w (nested w r) q ⊎ Occurs w (nested w q) r
 
 -- Of a tables stream t, opened with the options o, with what opening found, h
-module _ (o : Options) (h : Header) (t : List ℕ) where
+module _ (o : Options) (h : Opening) (t : List ℕ) where
   -- A byte's place p lies in no side table.
   abbrev pub Elsewhere : ℕ → Type 0
   Elsewhere p = (k : ℕ) → is_side k ≡ true → ¬ Inside (place o h t k) p

@@ -1,7 +1,7 @@
 -- The rows of a table, rows that act one after the other, and what rows of a key say.
 use Rattle.std.specs.Prelude.{cond, List, [], ◌∷◌, ◌++◌, ℕ, zero, suc, ◌+◌, ◌*◌, eqb, get_or}
 use Rattle.numbers.specs.Parts.{part}
-use Rattle.header.specs.declared.Header.{Header}
+use Rattle.header.specs.Stream.{Opening}
 use Rattle.tables.specs.Extents.{Extent}
 
 -- Row i of a table, from 0, as its bytes.
@@ -9,7 +9,7 @@ abbrev pub row_bytes : Extent → List ℕ → ℕ → List ℕ
 row_bytes e t i = part t (e.start + i * e.size) e.size
 
 -- The row count of a kind.
-abbrev pub count : Header → ℕ → ℕ
+abbrev pub count : Opening → ℕ → ℕ
 count h k = get_or h.counts k 0
 
 -- What rows 0 .. n - 1 make of a state, each acting in turn.

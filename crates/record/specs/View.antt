@@ -5,7 +5,7 @@ use Rattle.std.proofs.Math.Option.{Option, none, some}
 use Rattle.std.proofs.Math.ListN.{get_elem?}
 use Rattle.header.specs.Stream.{opened}
 use Rattle.header.specs.declared.Options.{Options}
-use Rattle.header.specs.declared.Header.{Header}
+use Rattle.header.specs.Stream.{Opening}
 use Rattle.buffers.specs.Texts.{Text}
 use Rattle.heaps.specs.Lookups.{Name, name}
 use Rattle.layouts.specs.declared.IndexSizes.{IndexSizes}
@@ -29,7 +29,7 @@ layout_in w r = record { packing = packing_size w r; size = class_size w r }
 
 pub record View : Type 0 where
   -- what opening finds: a refusal, or heap sizes, row counts and the place of the first table
-  pub header : Header
+  pub header : Opening
   -- the length of the tables stream
   pub size : ℕ
   -- the index sizes: what the options mean for answers
@@ -50,7 +50,7 @@ pub record View : Type 0 where
   pub blob : List ℕ
 
 -- By the options, what opening found, h, and the tables stream t
-module _ (o : Options) (h : Header) (t : List ℕ) where
+module _ (o : Options) (h : Opening) (t : List ℕ) where
   -- Where the table of kind k lies, the size of its rows and how many are whole.
   abbrev pub place : ℕ → Extent
   place k = extent o h (length t) k
@@ -92,5 +92,5 @@ view o t strings blob = view_of o (opened o t) t strings blob
 -- to every call.
 abbrev pub ViewBySizes : Type 0
 ViewBySizes =
-    (o p : Options) (h : Header) (t strings blob : List ℕ) → sizes_in o h ≡ sizes_in p h → o.taker ≡ p.taker
+    (o p : Options) (h : Opening) (t strings blob : List ℕ) → sizes_in o h ≡ sizes_in p h → o.taker ≡ p.taker
     → view_of o h t strings blob ≡ view_of p h t strings blob

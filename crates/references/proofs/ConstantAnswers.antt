@@ -14,9 +14,7 @@ use Rattle.buffers.specs.Texts.{Text}
 use Rattle.buffers.specs.Replies.{refused_by, value, name_or_5}
 use Rattle.buffers.specs.declared.Refusal.TheVariants.{NoSuchRow}
 use Rattle.heaps.specs.Lookups.{blob as blob_at_index}
-use Rattle.keys.specs.Keyed.{FoundIs}
-use Rattle.keys.specs.declared.Row.{Row}
-use Rattle.keys.specs.declared.Row.TheVariants.{At, NoRow}
+use Rattle.keys.specs.Keyed.{Row, FoundIs}
 use Rattle.keys.proofs.Laws.{of_key-length, of_key-item, of_key-past}
 use Rattle.layouts.specs.Kinds.{constant}
 use Rattle.layouts.specs.Read.{reference_column}
@@ -33,6 +31,7 @@ use Rattle.references.specs.Layout.{options_in, header_in, rows_at, row_at, cell
 use Rattle.references.proofs.Laws.{rows-at, constants-at}
 use Rattle.references.proofs.Tables.{entire-le, table-there, table-gone}
 use Rattle.references.proofs.NameAnswers.{set_is}
+use Rattle.std.specs.Prelude.{Some, None}
 
 -- ---- Rows of a kind, among all rows
 
@@ -113,8 +112,8 @@ module _ {t l : List ℕ} (laid : Laid t l) where
     abbrev Finds : ℕ → Row → Type 0
     Finds = FoundIs (cell t l columns.constant_type) string_type n
 
-    module _ (nth i : ℕ) {r : Row} (finds : Finds nth r) (e : r ≡ At i) where
-      at_row : Finds nth (At i)
+    module _ (nth i : ℕ) {r : Row} (finds : Finds nth r) (e : r ≡ Some i) where
+      at_row : Finds nth (Some i)
       at_row = rw e at finds
 
       pub found-row : i < n
@@ -135,7 +134,7 @@ module _ {t l : List ℕ} (laid : Laid t l) where
       unfolding constant_text view_of
       constant-blob z = the-constant ∙ rw (ne_eqb (cell t l columns.constant_value i) 0 z) refl
 
-    pub constant-past : (nth : ℕ) {r : Row} → Finds nth r → r ≡ NoRow → constant_value v nth ≡ refused_by NoSuchRow
+    pub constant-past : (nth : ℕ) {r : Row} → Finds nth r → r ≡ None → constant_value v nth ≡ refused_by NoSuchRow
     unfolding constant_value
     constant-past nth finds e = go n refl
       where

@@ -5,7 +5,7 @@ use Prim.Native.Nat.{ℕ, ◌+◌, ◌*◌, ◌<◌}
 use native.Mathlib.Omega.{arith}
 use lib.ListN.{length, get_or}
 use Rattle.header.specs.declared.Options.{Options}
-use Rattle.header.specs.declared.Header.{Header}
+use Rattle.header.specs.Stream.{Opening}
 use Rattle.layouts.specs.Columns.{tables}
 use Rattle.layouts.specs.Kinds.{constant, custom_attribute, module_ref, assembly_ref}
 use Rattle.layouts.specs.Read.{reference_columns, reference_column}
@@ -21,7 +21,7 @@ module _ {t l : List ℕ} (laid : Laid t l) where
   abbrev o : Options
   o = options_in l
 
-  abbrev h : Header
+  abbrev h : Opening
   h = header_in t l
 
   number_at : (c d : ℕ) → c < columns.count → d < columns.numbers → get_or l (columns.numbers * c + d) 0 ≡ get_or (column_numbers o h (length t) (reference_column c)) d 0

@@ -8,7 +8,7 @@ use lib.Dec.{eqb}
 use lib.ListN.{length, get_or, set}
 use lib.Seq.{ext_get_or}
 use Rattle.header.specs.declared.Options.{Options}
-use Rattle.header.specs.declared.Header.{Header}
+use Rattle.header.specs.Stream.{Opening}
 use Rattle.layouts.specs.Kinds.{constant, custom_attribute, module_ref, assembly_ref}
 use Rattle.layouts.specs.Read.{reference_columns, reference_column}
 use Rattle.tables.specs.Extents.{Walked, walk_says, walk_reply, extent_by, only_entire, kept_by, sizes_in}
@@ -19,7 +19,7 @@ use Rattle.opening.proofs.Filling.{Filled, put}
 use Rattle.references.specs.Columns as columns
 use Rattle.references.specs.Layout.{entire_by, entire_numbers, layout_of}
 
-module _ (o : Options) (h : Header) (n : ℕ) where
+module _ (o : Options) (h : Opening) (n : ℕ) where
   pub layout-at : (c d : ℕ) → c < columns.count → d < columns.numbers → get_or (layout_of o h n) (columns.numbers * c + d) 0 ≡ get_or (column_numbers o h n (reference_column c)) d 0
   unfolding layout_of
   layout-at c d l k = numbers-at o h n reference_columns (option_numbers o h n ++ entire_numbers o h n) (reference_column columns.count) c d l k

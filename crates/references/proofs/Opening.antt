@@ -6,36 +6,35 @@ use Prim.Native.Nat.{ℕ}
 use native.Mathlib.Omega.{arith}
 use lib.ListN.{length, replicate}
 use Rattle.buffers.specs.declared.Refusal.{Refusal}
-use Rattle.header.specs.Stream.{opened}
+use Rattle.header.specs.Stream.{Opened, opened}
 use Rattle.header.specs.declared.Options.{Options}
-use Rattle.header.specs.declared.Header.{Header}
-use Rattle.header.specs.declared.Opened.{Opened}
-use Rattle.header.specs.declared.Opened.TheVariants.{Refused, Ready}
+use Rattle.header.specs.Stream.{Opening}
 use Rattle.record.specs.View.{view}
 use Rattle.opening.proofs.Laws.{flag_is}
 use Rattle.references.specs.Columns as columns
 use Rattle.references.specs.Layout.{layout_of, options_in, view_in, OpenedAs}
 use Rattle.references.proofs.Laying.{layout-size}
+use Rattle.std.specs.Prelude.{Ok, Err}
 
-said : (o : Options) (h : Header) (n : ℕ) → options_in (layout_of o h n) ≡ o
+said : (o : Options) (h : Opening) (n : ℕ) → options_in (layout_of o h n) ≡ o
 unfolding options_in layout_of
 said o h n = rw (flag_is o.security, flag_is o.taker)
 
-module _ {o : Options} {t : List ℕ} {h : Header} (e : h ≡ opened o t) where
-  pub is-refused : {why : Refusal} {a : Opened} {l : List ℕ} → h.answer ≡ Refused why → (a ≡ Refused why) × (l ≡ replicate columns.size 0) → OpenedAs o t a l
+module _ {o : Options} {t : List ℕ} {h : Opening} (e : h ≡ opened o t) where
+  pub is-refused : {why : Refusal} {a : Opened} {l : List ℕ} → h.answer ≡ Err why → (a ≡ Err why) × (l ≡ replicate columns.size 0) → OpenedAs o t a l
   is-refused f (g, z) =
       record {
-        answer = g ∙ sym f ∙ ap (λ (x : Header). x.answer) e;
+        answer = g ∙ sym f ∙ ap (λ (x : Opening). x.answer) e;
         laid = λ r. let no : ◌≡◌ {A = ℕ} 0 1 = cc in absurd (omega arith);
         options = λ r. let no : ◌≡◌ {A = ℕ} 0 1 = cc in absurd (omega arith);
         blank = λ _. z;
       }
 
-  pub is-ready : {l : List ℕ} → h.answer ≡ Ready
-      → l ≡ layout_of o (record { answer = Ready; heap = h.heap; first = h.first; counts = h.counts }) (length t) → OpenedAs o t Ready l
+  pub is-ready : {l : List ℕ} → h.answer ≡ (Ok tt)
+      → l ≡ layout_of o (record { answer = (Ok tt); heap = h.heap; first = h.first; counts = h.counts }) (length t) → OpenedAs o t (Ok tt) l
   is-ready {l} f g =
-      let same : record { answer = Ready; heap = h.heap; first = h.first; counts = h.counts } ≡ opened o t = rw (← f) e in
-      let is : (opened o t).answer ≡ Ready = ap (λ (x : Header). x.answer) (sym e) ∙ f in
+      let same : record { answer = (Ok tt); heap = h.heap; first = h.first; counts = h.counts } ≡ opened o t = rw (← f) e in
+      let is : (opened o t).answer ≡ (Ok tt) = ap (λ (x : Opening). x.answer) (sym e) ∙ f in
       let all : l ≡ layout_of o (opened o t) (length t) = rw same at g in
       let by : options_in l ≡ o = rw all (said o (opened o t) (length t)) in
       record {
@@ -46,6 +45,6 @@ module _ {o : Options} {t : List ℕ} {h : Header} (e : h ≡ opened o t) where
       }
 
 -- What the calls cite of it.
-module _ {o : Options} {t : List ℕ} {a : Opened} {l : List ℕ} (c : OpenedAs o t a l) (r : a ≡ Ready) where
+module _ {o : Options} {t : List ℕ} {a : Opened} {l : List ℕ} (c : OpenedAs o t a l) (r : a ≡ (Ok tt)) where
   pub opened_view : (strings blob : List ℕ) → view_in t l strings blob ≡ view o t strings blob
   opened_view strings blob = rw (c.options r)

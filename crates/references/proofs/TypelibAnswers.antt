@@ -18,12 +18,8 @@ use Rattle.buffers.specs.Replies.{refused_by, name_or_5}
 use Rattle.buffers.specs.declared.Refusal.TheVariants.{NoSuchRow, NoName}
 use Rattle.buffers.specs.declared.Reason.{Reason}
 use Rattle.buffers.specs.declared.Reason.TheVariants.{Untold}
-use Rattle.heaps.specs.Lookups.{string_at, string, blob as blob_at_index}
-use Rattle.heaps.specs.declared.Part.{Part}
-use Rattle.heaps.specs.declared.Part.TheVariants.{Found, Absent}
+use Rattle.heaps.specs.Lookups.{Part, string_at, string, blob as blob_at_index}
 use Rattle.heaps.proofs.Lookups.{string-within, string-some, string-none}
-use Rattle.keys.specs.declared.Row.{Row}
-use Rattle.keys.specs.declared.Row.TheVariants.{At, NoRow}
 use Rattle.layouts.specs.Kinds.{type_ref, member_ref, custom_attribute}
 use Rattle.layouts.specs.Read.{reference_column}
 use Rattle.tables.specs.Extents.{kept_rows}
@@ -37,17 +33,19 @@ use Rattle.references.specs.Search.{tagged_row, row_says, FirstIs}
 use Rattle.references.proofs.Laws.{rows-at, attributes-at}
 use Rattle.references.proofs.Tables.{map-tabulate, entire-le, table-there, table-gone}
 use Rattle.references.proofs.NameAnswers.{set_is}
+use Rattle.std.specs.Prelude.{Some, None, Ok, Err}
+use Rattle.keys.specs.Keyed.{Row}
 
 -- ---- The name of the attribute
 
 module _ (s : Bor (List ℕ)) (i : ℕ) {p : Part} (e : p ≡ string_at s.now i) where
-  pub named-is : {start n : ℕ} {text : Bor (List ℕ)} {r : Bool} → p ≡ Found start n → CutOf text s start n → r ≡ same (q "GuidAttribute") text.now
+  pub named-is : {start n : ℕ} {text : Bor (List ℕ)} {r : Bool} → p ≡ Ok (record { start = start; len = n }) → CutOf text s start n → r ≡ same (q "GuidAttribute") text.now
       → r ≡ is_text (q "GuidAttribute") (string s.now i)
   named-is {text = text} f c g =
       let there = sym f ∙ e in
       g ∙ rw (string-some s.now i there, ← (cut-is text s _ _ (string-within s.now i there) c).bytes) refl
 
-  pub named-not : {why : Reason} → p ≡ Absent why → false ≡ is_text (q "GuidAttribute") (string s.now i)
+  pub named-not : {why : Reason} → p ≡ Err why → false ≡ is_text (q "GuidAttribute") (string s.now i)
   named-not f = rw (string-none s.now i (sym f ∙ e)) refl
 
 -- ---- The row that a coded index means
@@ -93,13 +91,13 @@ module _ {t l : List ℕ} (laid : Laid t l) where
           go false b d = refl
 
       module _ {r : Row} (says : row_says r ≡ tagged_row (rows_at l c) tag i) where
-        pub tagged-row : {m : ℕ} → r ≡ At m → m < rows_at l c
+        pub tagged-row : {m : ℕ} → r ≡ Some m → m < rows_at l c
         tagged-row {m} e = tagged-below (rows_at l c) tag i m (rw e at says)
 
-        pub tagged-there : {m : ℕ} → r ≡ At m → tagged v tag (reference_column c).kind i ≡ some (row_at t l c m)
+        pub tagged-there : {m : ℕ} → r ≡ Some m → tagged v tag (reference_column c).kind i ≡ some (row_at t l c m)
         tagged-there e = tagged_is ∙ rw (← says, e) refl
 
-        pub tagged-gone : r ≡ NoRow → tagged v tag (reference_column c).kind i ≡ none
+        pub tagged-gone : r ≡ None → tagged v tag (reference_column c).kind i ≡ none
         tagged-gone e = tagged_is ∙ rw (← says, e) refl
 
     -- The name of the type behind a CustomAttributeType index.
@@ -188,21 +186,21 @@ module _ {t l : List ℕ} (laid : Laid t l) (strings blob : List ℕ) where
   met j e = rw e refl
 
   module _ {r : Row} (finds : FirstIs qualifies n r) where
-    pub typelib-row : {i : ℕ} → r ≡ At i → i < n
+    pub typelib-row : {i : ℕ} → r ≡ Some i → i < n
     typelib-row {i} e = (rw e at finds).0
 
-    pub typelib-found : {i : ℕ} → r ≡ At i → typelib w ≡ name_or_5 (and_then (blob_at_index blob (cell t l columns.attribute_value i)) guid_text)
+    pub typelib-found : {i : ℕ} → r ≡ Some i → typelib w ≡ name_or_5 (and_then (blob_at_index blob (cell t l columns.attribute_value i)) guid_text)
     typelib-found {i} e =
-        let f : FirstIs qualifies n (At i) = rw e at finds in
+        let f : FirstIs qualifies n (Some i) = rw e at finds in
         first-is (λ z. omega (arith, f.0))
         ∙ ap (λ x. name_or_5 (or_default none x))
         (first_some (λ j. typelib_in w (row j)) 0 n i {a = and_then (blob_at_index blob (cell t l columns.attribute_value i)) guid_text} f.0
         (let z : 0 + i ≡ i = omega arith in rw z (met i f.1))
         (λ j h. let z : 0 + j ≡ j = omega arith in rw z (passed j (f.2 j h))))
 
-    pub typelib-none : n ≢ 0 → r ≡ NoRow → typelib w ≡ refused_by (NoName Untold)
+    pub typelib-none : n ≢ 0 → r ≡ None → typelib w ≡ refused_by (NoName Untold)
     typelib-none h e =
-        let f : FirstIs qualifies n NoRow = rw e at finds in
+        let f : FirstIs qualifies n None = rw e at finds in
         first-is h
         ∙ ap (λ x. name_or_5 (or_default none x))
         (first-none (λ j. typelib_in w (row j)) 0 n (λ j k. let z : 0 + j ≡ j = omega arith in rw z (passed j (f j k))))

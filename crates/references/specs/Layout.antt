@@ -1,12 +1,10 @@
 -- The layout of the references: the numbers by which code reads the columns that the references come from (ECMA-335 II.22) on demand. It is
 -- one of its own, beside that of `rows`, since few calls read these columns, and each reads few of them.
-use Rattle.std.specs.Prelude.{◌≡◌, cond, List, [], ◌∷◌, ◌++◌, map, ℕ, ◌+◌, ◌*◌, eqb, length, get_or, replicate}
+use Rattle.std.specs.Prelude.{◌≡◌, cond, List, [], ◌∷◌, ◌++◌, map, ℕ, ◌+◌, ◌*◌, eqb, length, get_or, replicate, Ok, Err}
 use Rattle.buffers.specs.declared.Refusal.{Refusal}
-use Rattle.header.specs.Stream.{opened}
+use Rattle.header.specs.Stream.{Opened, opened}
 use Rattle.header.specs.declared.Options.{Options}
-use Rattle.header.specs.declared.Header.{Header}
-use Rattle.header.specs.declared.Opened.{Opened}
-use Rattle.header.specs.declared.Opened.TheVariants.{Ready, Refused}
+use Rattle.header.specs.Stream.{Opening}
 use Rattle.layouts.specs.Kinds.{constant, custom_attribute, module_ref, assembly_ref}
 use Rattle.layouts.specs.declared.IndexSizes.{IndexSizes}
 use Rattle.layouts.specs.Read.{reference_columns, reference_column}
@@ -19,11 +17,11 @@ use Rattle.rows.specs.Layout.{all_numbers, option_numbers}
 use Rattle.references.specs.Columns as columns
 
 -- How many rows a table has that is read whole (`entire_rows` of a view), by the index sizes, what opening found and the stream's length.
-unfoldable pub entire_by : IndexSizes → Header → ℕ → ℕ → ℕ
+unfoldable pub entire_by : IndexSizes → Opening → ℕ → ℕ → ℕ
 entire_by w h n k = let rows = kept_by w h n k in cond (eqb rows (count h k)) rows 0
 
 -- By the options, what opening found, and the length of the tables stream:
-module _ (o : Options) (h : Header) (n : ℕ) where
+module _ (o : Options) (h : Opening) (n : ℕ) where
   -- How many rows the tables have that are given only if they are read whole.
   abbrev pub entire_numbers : List ℕ
   entire_numbers = map (entire_by (sizes_in o h) h n) (constant ∷ custom_attribute ∷ module_ref ∷ assembly_ref ∷ [])
@@ -36,7 +34,7 @@ module _ (o : Options) (h : Header) (n : ℕ) where
 unfoldable pub options_in : List ℕ → Options
 options_in l = record { limit = get_or l columns.limit 0; security = eqb (get_or l columns.security 0) 1; taker = eqb (get_or l columns.taker 0) 1 }
 
-abbrev pub header_in : List ℕ → List ℕ → Header
+abbrev pub header_in : List ℕ → List ℕ → Opening
 header_in t l = opened (options_in l) t
 
 -- the kept rows of the table that column c is of,
@@ -53,7 +51,7 @@ cell t l c i = column (reference_column c).kind (reference_column c).place (size
 -- l is the layout of the tables stream t, which was opened and not refused.
 pub record Laid (t l : List ℕ) : Type 0 where
   pub size : length l ≡ columns.size
-  pub ready : (header_in t l).answer ≡ Ready
+  pub ready : (header_in t l).answer ≡ (Ok tt)
   pub is : l ≡ layout_of (options_in l) (header_in t l) (length t)
 
 -- The view of a stream by its layout.
@@ -63,6 +61,6 @@ view_in t l strings blob = view (options_in l) t strings blob
 -- Opening the tables stream t by the options o gives the answer a, and the layout l, which says the options; zeros where it is refused.
 pub record OpenedAs (o : Options) (t : List ℕ) (a : Opened) (l : List ℕ) : Type 0 where
   pub answer : a ≡ (opened o t).answer
-  pub laid : a ≡ Ready → Laid t l
-  pub options : a ≡ Ready → options_in l ≡ o
-  pub blank : {why : Refusal} → a ≡ Refused why → l ≡ replicate columns.size 0
+  pub laid : a ≡ (Ok tt) → Laid t l
+  pub options : a ≡ (Ok tt) → options_in l ≡ o
+  pub blank : {why : Refusal} → a ≡ Err why → l ≡ replicate columns.size 0

@@ -9,8 +9,7 @@ ghost use Rattle.references.specs.Columns as columns;
 ghost use Rattle.references.specs.Layout.{Laid, cell, view_in};
 
 use super::{columns, count_entire, read_column, texts};
-use buffers::{Refusal, Reply, Told};
-use keys::Row;
+use buffers::{Refusal, Reply, Told, Unnamed};
 
 // ELEMENT_TYPE_STRING, II.23.1.16
 const STRING: u32 = 0x0E;
@@ -21,11 +20,9 @@ fn count_strings(tables: &[u8], layout: &[u32]) -> usize
     ensures { result ≡ keyed (cell tables.now layout.now columns.constant_type) string_type (get_or layout.now columns.constants 0) }
 {
     let n = count_entire(layout, columns::CONSTANTS);
-    let mut i = 0;
     let mut seen = 0;
-    while i < n {
+    for i in 0..n {
         let here = read_column(tables, layout, columns::CONSTANT_TYPE, i);
-        i += 1;
         if here == STRING {
             seen += 1;
         }
@@ -34,24 +31,21 @@ fn count_strings(tables: &[u8], layout: &[u32]) -> usize
 }
 
 // The row of that type with so many before it.
-fn find_string(tables: &[u8], layout: &[u32], nth: usize) -> Row
+fn find_string(tables: &[u8], layout: &[u32], nth: usize) -> Option<usize>
     requires { Laid tables.now layout.now }
     ensures { FoundIs (cell tables.now layout.now columns.constant_type) string_type (get_or layout.now columns.constants 0) nth result }
 {
     let n = count_entire(layout, columns::CONSTANTS);
-    let mut i = 0;
     let mut seen = 0;
-    while i < n {
-        let at = i;
-        i += 1;
-        if read_column(tables, layout, columns::CONSTANT_TYPE, at) == STRING {
+    for i in 0..n {
+        if read_column(tables, layout, columns::CONSTANT_TYPE, i) == STRING {
             if seen == nth {
-                return Row::At(at);
+                return Some(i);
             }
             seen += 1;
         }
     }
-    Row::NoRow
+    None
 }
 
 // How many string constants there are: none is a number too, where the table has rows and is read whole.
@@ -60,9 +54,9 @@ pub fn count_constants(tables: &[u8], layout: &[u32]) -> Reply
     ensures { (strings blob : List ℕ) → Numbered (constant_count (view_in tables.now layout.now strings blob)) result }
 {
     if count_entire(layout, columns::CONSTANTS) == 0 {
-        return Reply::No(Refusal::NoSuchRow);
+        return Err(Refusal::NoSuchRow);
     }
-    Reply::Is(count_strings(tables, layout))
+    Ok(count_strings(tables, layout))
 }
 
 // What the answer for the value of string constant i comes to at a place: index 0 is an empty value.
@@ -78,14 +72,12 @@ pub fn tell_constant_value(
     ensures { (strings : List ℕ) → ToldIs (constant_value (view_in tables.now layout.now strings blob.now) i)
         buf.old at buf.new result }
 {
-    match find_string(tables, layout, i as usize) {
-        Row::At(row) => {
-            let index = read_column(tables, layout, columns::CONSTANT_VALUE, row);
-            if index == 0 {
-                return Told::Name(buffers::push(buf, at, &blob[..0]));
-            }
-            texts::tell_part(buf, at, blob, heaps::get_blob(blob, index as usize))
-        }
-        Row::NoRow => Told::NoRow,
+    let Some(row) = find_string(tables, layout, i as usize) else {
+        return Err(Unnamed::NoRow);
+    };
+    let index = read_column(tables, layout, columns::CONSTANT_VALUE, row);
+    if index == 0 {
+        return Ok(buffers::push(buf, at, &blob[..0]));
     }
+    texts::tell_part(buf, at, blob, heaps::get_blob(blob, index as usize))
 }

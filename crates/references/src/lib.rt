@@ -10,8 +10,7 @@ pub mod names;
 mod texts;
 pub mod typelib;
 
-ghost use Rattle.std.specs.Prelude.{◌≡◌, cond, ◌<◌, ◌≤◌, eqb, length, get_or, replicate};
-ghost use Rattle.header.specs.declared.Opened.TheVariants.{Ready};
+ghost use Rattle.std.specs.Prelude.{◌≡◌, cond, ◌<◌, ◌≤◌, eqb, length, get_or, replicate, Ok};
 ghost use Rattle.references.specs.Columns as columns;
 ghost use Rattle.references.specs.Layout.{layout_of, rows_at, cell, Laid, OpenedAs};
 
@@ -32,17 +31,14 @@ const ASSEMBLY_REF: usize = 0x23;
 fn entire_rows(rows: u32, count: u32) -> u32
     ensures { result ≡ cond (eqb rows count) rows 0 }
 {
-    if rows == count {
-        return rows;
-    }
-    0
+    if rows == count { rows } else { 0 }
 }
 
 // Lays out a stream of that length, opened with these options, with what its header says.
 fn lay(layout: &mut [u32], len: usize, first: usize, heap: u8, counts: &[u32; 64], options: Options)
     requires first_le_len { (first ≤ len) × (len < 9223372036854775808) }
     requires layout_value { layout.old ≡ replicate columns.size 0 }
-    ensures { layout.new ≡ layout_of options (record { answer = Ready; heap = heap; first = first; counts = counts.now }) len }
+    ensures { layout.new ≡ layout_of options (record { answer = Ok tt; heap = heap; first = first; counts = counts.now }) len }
 {
     let security = options.security;
     let sizes = layouts::index_sizes(heap, counts, security);
@@ -61,8 +57,8 @@ fn lay(layout: &mut [u32], len: usize, first: usize, heap: u8, counts: &[u32; 64
         layout[at + form::ROWS] = opening::kept_rows(kind, walk.rows[kind], counts[kind]);
     }
     layout[columns::LIMIT] = options.limit;
-    layout[columns::SECURITY] = opening::flag(security);
-    layout[columns::TAKER] = opening::flag(options.taker);
+    layout[columns::SECURITY] = u32::from(security);
+    layout[columns::TAKER] = u32::from(options.taker);
     layout[columns::CONSTANTS] = entire_rows(walk.rows[CONSTANT], counts[CONSTANT]);
     layout[columns::ATTRIBUTES] = entire_rows(
         walk.rows[CUSTOM_ATTRIBUTE],
@@ -77,17 +73,9 @@ pub fn open_references(tables: &[u8], options: Options, layout: &mut [u32]) -> O
     requires { layout.old ≡ replicate columns.size 0 }
     ensures { OpenedAs options tables.now result layout.new }
 {
-    let h = header::read_header(tables, options);
-    let answer = h.answer;
-    let first = h.first;
-    let heap = h.heap;
-    match answer {
-        Opened::Refused(why) => Opened::Refused(why),
-        Opened::Ready => {
-            lay(layout, tables.len(), first, heap, &h.counts, options);
-            Opened::Ready
-        }
-    }
+    let h = header::read_header(tables, options)?;
+    lay(layout, tables.len(), h.first, h.heap, &h.counts, options);
+    Ok(())
 }
 
 // How many rows of the table of a column are kept.

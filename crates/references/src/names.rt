@@ -6,7 +6,7 @@ ghost use Rattle.references.specs.Columns as columns;
 ghost use Rattle.references.specs.Layout.{Laid, view_in};
 
 use super::{columns, count_entire, count_rows, read_column, texts};
-use buffers::{Refusal, Reply, Told};
+use buffers::{Refusal, Reply, Told, Unnamed};
 
 // The numbers of a version.
 const VERSION_PARTS: u32 = 4;
@@ -24,7 +24,7 @@ pub fn tell_module_name(
         buf.old at buf.new result }
 {
     if count_rows(layout, columns::MODULE_NAME) == 0 {
-        return Told::NoRow;
+        return Err(Unnamed::NoRow);
     }
     texts::tell_string(buf, at, tables, strings, layout, columns::MODULE_NAME, 0)
 }
@@ -36,9 +36,9 @@ pub fn count_module_refs(layout: &[u32]) -> Reply
 {
     let n = count_entire(layout, columns::MODULE_REFS);
     if n == 0 {
-        return Reply::No(Refusal::NoSuchRow);
+        return Err(Refusal::NoSuchRow);
     }
-    Reply::Is(n)
+    Ok(n)
 }
 
 // What the answer for the name of module reference i comes to at a place.
@@ -56,7 +56,7 @@ pub fn tell_module_ref_name(
 {
     let row = i as usize;
     if count_entire(layout, columns::MODULE_REFS) <= row {
-        return Told::NoRow;
+        return Err(Unnamed::NoRow);
     }
     texts::tell_string(
         buf,
@@ -82,7 +82,7 @@ pub fn tell_assembly_name(
         buf.old at buf.new result }
 {
     if count_rows(layout, columns::ASSEMBLY_NAME) == 0 {
-        return Told::NoRow;
+        return Err(Unnamed::NoRow);
     }
     texts::tell_string(buf, at, tables, strings, layout, columns::ASSEMBLY_NAME, 0)
 }
@@ -93,13 +93,13 @@ pub fn assembly_version_of(tables: &[u8], layout: &[u32], part: u32) -> Reply
     ensures { (strings blob : List ℕ) → Numbered (assembly_version (view_in tables.now layout.now strings blob) part) result }
 {
     if count_rows(layout, columns::ASSEMBLY_VERSION) == 0 {
-        return Reply::No(Refusal::NoSuchRow);
+        return Err(Refusal::NoSuchRow);
     }
     if VERSION_PARTS <= part {
-        return Reply::No(Refusal::NoSuchRow);
+        return Err(Refusal::NoSuchRow);
     }
     let number = read_column(tables, layout, columns::ASSEMBLY_VERSION + part as usize, 0);
-    Reply::Is(number as usize)
+    Ok(number as usize)
 }
 
 // What the answer for its culture comes to at a place.
@@ -115,7 +115,7 @@ pub fn tell_assembly_culture(
         buf.old at buf.new result }
 {
     if count_rows(layout, columns::ASSEMBLY_CULTURE) == 0 {
-        return Told::NoRow;
+        return Err(Unnamed::NoRow);
     }
     texts::tell_string(
         buf,
@@ -135,9 +135,9 @@ pub fn count_assembly_refs(layout: &[u32]) -> Reply
 {
     let n = count_entire(layout, columns::ASSEMBLY_REFS);
     if n == 0 {
-        return Reply::No(Refusal::NoSuchRow);
+        return Err(Refusal::NoSuchRow);
     }
-    Reply::Is(n)
+    Ok(n)
 }
 
 // What the answer for the name of assembly reference i comes to at a place.
@@ -155,7 +155,7 @@ pub fn tell_assembly_ref_name(
 {
     let row = i as usize;
     if count_entire(layout, columns::ASSEMBLY_REFS) <= row {
-        return Told::NoRow;
+        return Err(Unnamed::NoRow);
     }
     texts::tell_string(
         buf,
@@ -175,10 +175,10 @@ pub fn assembly_ref_version_of(tables: &[u8], layout: &[u32], i: u32, part: u32)
 {
     let row = i as usize;
     if count_entire(layout, columns::ASSEMBLY_REFS) <= row {
-        return Reply::No(Refusal::NoSuchRow);
+        return Err(Refusal::NoSuchRow);
     }
     if VERSION_PARTS <= part {
-        return Reply::No(Refusal::NoSuchRow);
+        return Err(Refusal::NoSuchRow);
     }
     let number = read_column(
         tables,
@@ -186,7 +186,7 @@ pub fn assembly_ref_version_of(tables: &[u8], layout: &[u32], i: u32, part: u32)
         columns::ASSEMBLY_REF_VERSION + part as usize,
         row,
     );
-    Reply::Is(number as usize)
+    Ok(number as usize)
 }
 
 // What the answer for its public key or token comes to at a place: one without bytes is missing.
@@ -204,7 +204,7 @@ pub fn tell_assembly_ref_key(
 {
     let row = i as usize;
     if count_entire(layout, columns::ASSEMBLY_REFS) <= row {
-        return Told::NoRow;
+        return Err(Unnamed::NoRow);
     }
     let index = read_column(tables, layout, columns::ASSEMBLY_REF_KEY, row);
     let key = heaps::get_blob(blob, index as usize);

@@ -10,7 +10,7 @@ ghost use Rattle.references.specs.Columns as columns;
 ghost use Rattle.references.specs.Layout.{Laid, rows_at, cell};
 
 use super::read_column;
-use buffers::{Reason, Told};
+use buffers::{Reason, Told, Unnamed};
 use heaps::Part;
 
 // What a part of a heap comes to.
@@ -18,13 +18,11 @@ pub fn tell_part(buf: &mut [u8], at: usize, heap: &[u8], part: Part) -> Told
     requires { Inside heap.now part }
     ensures { ToldIs (name_or_5 (bytes_of heap.now part)) buf.old at buf.new result }
 {
-    match part {
-        Part::Found { start, len } => {
-            let text = numbers::cut(heap, start, len);
-            Told::Name(buffers::push(buf, at, text))
-        }
-        Part::Absent(_) => Told::Missing(Reason::Untold),
-    }
+    let Ok(span) = part else {
+        return Err(Unnamed::Missing(Reason::Untold));
+    };
+    let text = numbers::cut(heap, span.start, span.len);
+    Ok(buffers::push(buf, at, text))
 }
 
 // What the string comes to that a column of row i finds.
@@ -50,13 +48,9 @@ pub fn tell_string(
 pub fn not_empty(part: Part) -> Part
     ensures { (s : List ℕ) → Inside s part → (Inside s result) × (bytes_of s result ≡ and_then (bytes_of s part) not_empty) }
 {
-    match part {
-        Part::Found { start, len } => {
-            if len == 0 {
-                return Part::Absent(Reason::Untold);
-            }
-            Part::Found { start, len }
-        }
-        Part::Absent(why) => Part::Absent(why),
+    let span = part?;
+    if span.len == 0 {
+        return Err(Reason::Untold);
     }
+    Ok(span)
 }

@@ -14,9 +14,8 @@ ghost use Rattle.references.specs.Layout.{Laid, rows_at, row_at, cell, view_in};
 ghost use Rattle.references.specs.Search.{tagged_row, row_says, FirstIs};
 
 use super::{columns, count_entire, count_rows, read_column, texts};
-use buffers::{Reason, Told};
-use heaps::Part;
-use keys::Row;
+use buffers::{Reason, Told, Unnamed};
+use heaps::{Part, Span};
 
 // Tags of coded indices, II.24.2.6
 const ASSEMBLY_TAG: u32 = 14;
@@ -32,49 +31,34 @@ const NULL_STRING: usize = 0xFF;
 fn is_same(a: &[u8], b: &[u8]) -> bool
     ensures { result ≡ same a.now b.now }
 {
-    if a.len() != b.len() {
-        return false;
-    }
-    let mut i = 0;
-    while i < a.len() {
-        if a[i] != b[i] {
-            return false;
-        }
-        i += 1;
-    }
-    true
+    a == b
 }
 
 // Whether the string at an index is the name of the attribute.
 fn is_guid_attribute(strings: &[u8], index: usize) -> bool
     ensures { result ≡ is_text (q "GuidAttribute") (string strings.now index) }
 {
-    match heaps::get_string(strings, index) {
-        Part::Found { start, len } => {
-            let name = numbers::cut(strings, start, len);
-            is_same(b"GuidAttribute", name)
-        }
-        Part::Absent(_) => false,
-    }
+    let Ok(span) = heaps::get_string(strings, index) else {
+        return false;
+    };
+    let name = numbers::cut(strings, span.start, span.len);
+    is_same(b"GuidAttribute", name)
 }
 
 // The row, from 0, of the table of a column that a coded index with a tag of three bits means.
-fn tagged_row(layout: &[u32], column: usize, tag: u32, index: u32) -> Row
+#[tactic(auto, unfolding(crate::specs::Search::tagged_row))]
+fn tagged_row(layout: &[u32], column: usize, tag: u32, index: u32) -> Option<usize>
     requires { (column < columns.count) × (length layout.now ≡ columns.size) }
     ensures { row_says result ≡ tagged_row (rows_at layout.now column) tag index }
 {
     if index % 8 != tag {
-        return Row::NoRow;
+        return None;
     }
-    let row = (index / 8) as usize;
-    if row == 0 {
-        return Row::NoRow;
-    }
-    let place = row - 1;
+    let place = ((index / 8) as usize).checked_sub(1)?;
     if count_rows(layout, column) <= place {
-        return Row::NoRow;
+        return None;
     }
-    Row::At(place)
+    Some(place)
 }
 
 // Whether the type behind a CustomAttributeType index has that name: of the TypeRef that is the class of the MemberRef.
@@ -83,19 +67,15 @@ fn is_guid_type(tables: &[u8], strings: &[u8], layout: &[u32], index: u32) -> bo
     ensures { (blob : List ℕ) → result ≡ is_text (q "GuidAttribute")
         (attribute_name (view_in tables.now layout.now strings.now blob) index) }
 {
-    match tagged_row(layout, columns::MEMBER_CLASS, MEMBER_REF_TAG, index) {
-        Row::At(member) => {
-            let class = read_column(tables, layout, columns::MEMBER_CLASS, member);
-            match tagged_row(layout, columns::REF_NAME, TYPE_REF_TAG, class) {
-                Row::At(row) => {
-                    let name = read_column(tables, layout, columns::REF_NAME, row);
-                    is_guid_attribute(strings, name as usize)
-                }
-                Row::NoRow => false,
-            }
-        }
-        Row::NoRow => false,
-    }
+    let Some(member) = tagged_row(layout, columns::MEMBER_CLASS, MEMBER_REF_TAG, index) else {
+        return false;
+    };
+    let class = read_column(tables, layout, columns::MEMBER_CLASS, member);
+    let Some(row) = tagged_row(layout, columns::REF_NAME, TYPE_REF_TAG, class) else {
+        return false;
+    };
+    let name = read_column(tables, layout, columns::REF_NAME, row);
+    is_guid_attribute(strings, name as usize)
 }
 
 // Whether row i of CustomAttribute may hold the typelib (`custom_attribute_is_typelib`).
@@ -114,46 +94,32 @@ fn is_typelib(tables: &[u8], strings: &[u8], layout: &[u32], i: usize) -> bool
 }
 
 // The first row of CustomAttribute that may.
-fn find_typelib(tables: &[u8], strings: &[u8], layout: &[u32]) -> Row
+fn find_typelib(tables: &[u8], strings: &[u8], layout: &[u32]) -> Option<usize>
     requires { Laid tables.now layout.now }
     ensures { FirstIs (λ j. is_typelib (view_in tables.now layout.now strings.now [])
         (row_at tables.now layout.now columns.attribute_parent j)) (get_or layout.now columns.attributes 0) result }
 {
     let n = count_entire(layout, columns::ATTRIBUTES);
-    let mut row = 0;
-    while row < n {
+    for row in 0..n {
         if is_typelib(tables, strings, layout, row) {
-            return Row::At(row);
+            return Some(row);
         }
-        row += 1;
     }
-    Row::NoRow
+    None
 }
 
 // The text in the value of a custom attribute: behind the prolog 01 00 a length byte, and so many bytes.
 fn guid_part(value: &[u8]) -> Part
     ensures { (Inside value.now result) × (bytes_of value.now result ≡ guid_text value.now) }
 {
-    if value.len() < 3 {
-        return Part::Absent(Reason::Untold);
-    }
-    if value[0] != 1 {
-        return Part::Absent(Reason::Untold);
-    }
-    if value[1] != 0 {
-        return Part::Absent(Reason::Untold);
+    if value.len() < 3 || value[0] != 1 || value[1] != 0 {
+        return Err(Reason::Untold);
     }
     let n = value[2] as usize;
-    if n == 0 {
-        return Part::Absent(Reason::Untold);
+    if n == 0 || NULL_STRING <= n || value.len() < 3 + n {
+        return Err(Reason::Untold);
     }
-    if NULL_STRING <= n {
-        return Part::Absent(Reason::Untold);
-    }
-    if value.len() < 3 + n {
-        return Part::Absent(Reason::Untold);
-    }
-    Part::Found { start: 3, len: n }
+    Ok(Span { start: 3, len: n })
 }
 
 // What the text in the value of row i comes to at a place.
@@ -171,13 +137,11 @@ fn tell_guid(
         buf.old at buf.new result }
 {
     let index = read_column(tables, layout, columns::ATTRIBUTE_VALUE, i);
-    match heaps::get_blob(blob, index as usize) {
-        Part::Found { start, len } => {
-            let value = numbers::cut(blob, start, len);
-            texts::tell_part(buf, at, value, guid_part(value))
-        }
-        Part::Absent(_) => Told::Missing(Reason::Untold),
-    }
+    let Ok(span) = heaps::get_blob(blob, index as usize) else {
+        return Err(Unnamed::Missing(Reason::Untold));
+    };
+    let value = numbers::cut(blob, span.start, span.len);
+    texts::tell_part(buf, at, value, guid_part(value))
 }
 
 // What the answer for the typelib comes to at a place: where no row qualifies, and where the first that does yields nothing, it is missing.
@@ -194,10 +158,10 @@ pub fn tell_typelib(
         buf.old at buf.new result }
 {
     if count_entire(layout, columns::ATTRIBUTES) == 0 {
-        return Told::NoRow;
+        return Err(Unnamed::NoRow);
     }
-    match find_typelib(tables, strings, layout) {
-        Row::At(i) => tell_guid(buf, at, tables, blob, layout, i),
-        Row::NoRow => Told::Missing(Reason::Untold),
-    }
+    let Some(i) = find_typelib(tables, strings, layout) else {
+        return Err(Unnamed::Missing(Reason::Untold));
+    };
+    tell_guid(buf, at, tables, blob, layout, i)
 }

@@ -2,10 +2,6 @@
 
 #![tactic(auto)]
 
-#[derive(Drop)]
-pub enum Rendering {
-    // the place after the text, and the position after what was read
-    Done(usize, usize),
-    // no text, and the position after the bytes that the reading used up
-    Failed(usize),
-}
+// The place after the text and the position after what was read, or, where there is no text, the position after the bytes that the
+// reading used up.
+pub type Rendering = Result<(usize, usize), usize>;

@@ -6,46 +6,9 @@
 #![tactic(auto)]
 
 use lines::Cursor;
+use replaying::{read_front, read_length, replay_file};
+use std::io;
 use std::io::Read;
-use std::rt::Files;
-use std::{fs, io};
-
-// What became of a case.
-#[derive(Drop)]
-enum Outcome {
-    Agreed,
-    Differed,
-    NoCase,
-}
-
-// Where a listing goes on after a piece, how many bytes of the expected one are still to be read, and whether the piece was the same.
-#[derive(Drop)]
-struct Compared {
-    next: Cursor,
-    left: usize,
-    same: bool,
-}
-
-fn write(rt: &impl Print, text: &[u8]) {
-    let _ = rt.write_all(text);
-}
-
-fn write_number(rt: &impl Print, n: u64) {
-    let _ = rt.print(n);
-}
-
-// Says on standard error why a file cannot be opened.
-fn write_failed(rt: &impl Eprint, path: &str, why: io::Error) {
-    let _ = eprintln!(rt; "{path}: {why}");
-}
-
-// Reads n bytes to the front of a buffer, and answers whether they came.
-fn read_front(file: &mut impl Read, buffer: &mut [u8], n: usize) -> bool {
-    if buffer.len() < n {
-        return false;
-    }
-    file.read_exact(&mut buffer[..n]).is_ok()
-}
 
 // Words for the layout, and for the rows by key.
 const WORDS: usize = 24_000;
@@ -53,134 +16,64 @@ const WORDS: usize = 24_000;
 // Bytes for a piece of a listing.
 const PIECE: usize = 65_536;
 
-// Holds a piece of the listing against as many bytes of the file.
-fn compare_piece(file: &mut impl Read, input: &[u8], from: Cursor, left: usize) -> Compared {
-    let mut text = [0u8; PIECE];
-    let mut work = [0u32; WORDS];
-    let piece = listing_text::fill_input(input, from, &mut work, &mut text);
-    let next = piece.next;
-    let n = piece.at;
-    if left < n {
-        return Compared {
-            next,
-            left,
-            same: false,
-        };
-    }
-    let mut expected = [0u8; PIECE];
-    let came = read_front(file, &mut expected, n);
-    let same = came && check::same(numbers::cut(&text, 0, n), numbers::cut(&expected, 0, n));
-    Compared {
-        next,
-        left: left - n,
-        same,
-    }
+// Bytes for an input.
+const INPUT: usize = 65_537;
+
+// What of a listing is still to be compared: where it goes on, and how many bytes of the expected one are still to be read.
+#[derive(Drop)]
+struct Ahead {
+    cursor: Cursor,
+    left: usize,
 }
 
-fn pass_byte(file: &mut impl Read) {
-    let mut space = [0u8; 1];
-    let _ = file.read(&mut space);
+// Holds a piece of the listing against as many bytes of the file, and answers whether they are the same. What is ahead goes on behind them.
+fn piece_agrees(file: &mut impl Read, input: &[u8], ahead: &mut Ahead) -> bool {
+    let mut text = [0u8; PIECE];
+    let mut work = [0u32; WORDS];
+    let piece = listing_text::fill_input(input, ahead.cursor, &mut work, &mut text);
+    let n = piece.at;
+    ahead.cursor = piece.next;
+    if ahead.left < n {
+        return false;
+    }
+    ahead.left -= n;
+    let mut space = [0u8; PIECE];
+    read_front(file, &mut space, n) == Some(numbers::cut(&text, 0, n))
+}
+
+// Whether a whole listing agrees with the file.
+fn listing_agrees(file: &mut impl Read, input: &[u8], ahead: &mut Ahead) -> bool {
+    for _ in 0..u64::MAX {
+        if !piece_agrees(file, input, ahead) {
+            return false;
+        }
+        if listing_steps::is_done(ahead.cursor) {
+            return ahead.left == 0;
+        }
+    }
+    false
 }
 
 // Reads past the rest of a case.
 fn pass_over(file: &mut impl Read, n: usize) {
-    let mut turns = n;
-    while 0 < turns {
-        pass_byte(file);
-        turns -= 1;
-    }
+    let _ = io::copy(&mut file.take(n as u64), &mut io::sink());
 }
 
-// Holds a whole listing against the file.
-fn compare_listing(file: &mut impl Read, input: &[u8], expected: usize) -> Outcome {
-    let mut cursor = lines::first_cursor();
-    let mut left = expected;
-    let mut turns: u64 = 0xFFFF_FFFF_FFFF_FFFF;
-    while 0 < turns {
-        let compared = compare_piece(file, input, cursor, left);
-        cursor = compared.next;
-        left = compared.left;
-        if !compared.same {
-            break;
-        }
-        if listing_steps::is_done(cursor) {
-            if left == 0 {
-                return Outcome::Agreed;
-            }
-            break;
-        }
-        turns -= 1;
-    }
-    pass_over(file, left);
-    Outcome::Differed
-}
-
-fn replay_case(file: &mut impl Read) -> Outcome {
-    let mut lengths = [0u8; 8];
-    if !read_front(file, &mut lengths, 8) {
-        return Outcome::NoCase;
-    }
-    let n = numbers::read_four(&lengths, 0) as usize;
-    let expected = numbers::read_four(&lengths, 4) as usize;
-    let mut input = [0u8; 65537];
-    if !read_front(file, &mut input, n) {
-        return Outcome::NoCase;
-    }
-    compare_listing(file, numbers::cut(&input, 0, n), expected)
-}
-
-fn write_differs(rt: &impl Print, case: u64) {
-    write(rt, b"differs: case ");
-    write_number(rt, case);
-    write(rt, b"\n");
-}
-
-fn write_counts(rt: &impl Print, agreed: u64, differed: u64) {
-    write_number(rt, agreed);
-    write(rt, b" agreed, ");
-    write_number(rt, differed);
-    write(rt, b" differed\n");
-}
-
-// Every case of the file. No file has as many as the loop has turns.
-fn replay(rt: &impl Print, file: &mut impl Read) {
-    let mut agreed: u64 = 0;
-    let mut differed: u64 = 0;
-    let mut case: u64 = 0;
-    while case < 1_000_000_000 {
-        match replay_case(file) {
-            Outcome::Agreed => {
-                agreed += 1;
-            }
-            Outcome::Differed => {
-                if differed < 10 {
-                    write_differs(rt, case);
-                }
-                differed += 1;
-            }
-            Outcome::NoCase => {
-                break;
-            }
-        }
-        case += 1;
-    }
-    write_counts(rt, agreed, differed);
-}
-
-fn replay_file(rt: &(impl Files + Print + Eprint), path: &str) {
-    match fs::open(rt, path) {
-        Ok(mut file) => {
-            write(rt, path.as_bytes());
-            write(rt, b":\n");
-            replay(rt, &mut file);
-        }
-        Err(why) => {
-            write_failed(rt, path, why);
-        }
-    }
+// Whether the next case agrees, if there is one.
+fn next_agrees(file: &mut impl Read) -> Option<bool> {
+    let n = read_length(file)?;
+    let left = read_length(file)?;
+    let mut space = [0u8; INPUT];
+    let input = read_front(file, &mut space, n)?;
+    let cursor = lines::first_cursor();
+    let mut ahead = Ahead { cursor, left };
+    let agrees = listing_agrees(file, input, &mut ahead);
+    pass_over(file, ahead.left);
+    Some(agrees)
 }
 
 fn main(rt: HostRuntime) {
-    replay_file(&rt, "cases");
-    replay_file(&rt, "wrong");
+    for path in ["cases", "wrong"] {
+        replay_file(&rt, path, ":", |file| next_agrees(file));
+    }
 }

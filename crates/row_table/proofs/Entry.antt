@@ -2,8 +2,7 @@
 use mathlib.Core.Path.{◌≡◌, refl, ap₂}
 use mathlib.Core.Bool.{Bool, true, false, ◌&&◌}
 use mathlib.Core.List.{List, [], ◌∷◌}
-use Prim.Native.Nat.{ℕ, zero, suc, ◌+◌, ◌/◌, ◌%◌, ◌≤◌}
-use native.Mathlib.Omega.{arith}
+use Prim.Native.Nat.{ℕ, zero, suc, ◌+◌, ◌/◌, ◌%◌}
 use lib.Dec.{T, eqb, eqb→eq}
 use Rattle.numbers.specs.Lists.{tabulate}
 use Rattle.layouts.proofs.Reaches.{and_left, and_right}
@@ -29,7 +28,3 @@ agrees-is f i (suc n) (x ∷ l) t =
 -- An entry of a part of the table.
 abbrev pub in_part : ℕ → ℕ → ℕ
 in_part coded i = entry (i % 8) coded (i / 8)
-
--- A number from k on that is not k.
-pub above : {n k : ℕ} → k ≤ n → (n ≡ k → ⊥) → k + 1 ≤ n
-above h e = omega arith

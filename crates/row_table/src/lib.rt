@@ -10,7 +10,7 @@ ghost use Rattle.row_table.specs.RowTable.{row_table};
 // A part for each setting of the coded indices: bit 0 is that of HasCustomAttribute, bit 1 of MemberRefParent, bit 2 of CustomAttributeType.
 // In it, for each kind its 8 sizes by the setting of the heap bits: bit 0 is that of strings, bit 1 of GUIDs, bit 2 of blobs. The parts
 // differ in two kinds alone.
-const ROW_SIZES: [[u8; 360]; 8] = [
+static ROW_SIZES: [[u8; 360]; 8] = [
     // no coded index has 4 bytes
     [
         // 0x00 Module
@@ -759,18 +759,9 @@ const ROW_SIZES: [[u8; 360]; 8] = [
 ];
 
 // The part of a setting of the coded indices.
-pub fn row_block(coded: usize) -> [u8; 360]
+pub fn row_block(coded: usize) -> &'static [u8; 360]
     requires { coded < 8 }
-    ensures { result ≡ get_or row_table coded [] }
+    ensures { result.now ≡ get_or row_table coded [] }
 {
-    match coded {
-        0 => ROW_SIZES[0],
-        1 => ROW_SIZES[1],
-        2 => ROW_SIZES[2],
-        3 => ROW_SIZES[3],
-        4 => ROW_SIZES[4],
-        5 => ROW_SIZES[5],
-        6 => ROW_SIZES[6],
-        _ => ROW_SIZES[7],
-    }
+    &ROW_SIZES[coded]
 }

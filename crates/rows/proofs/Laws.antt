@@ -13,16 +13,12 @@ use Rattle.numbers.proofs.Parts.{cut-is}
 use Rattle.buffers.specs.Writes.{Wrote}
 use Rattle.buffers.specs.Telling as telling
 use Rattle.buffers.specs.Telling.{ToldIs}
-use Rattle.buffers.specs.declared.Told.TheVariants.{Name, Missing}
 use Rattle.buffers.proofs.Writing.{kept_same}
-use Rattle.heaps.specs.Lookups.{string_at, name, reason_of, name_or_why}
+use Rattle.heaps.specs.Lookups.{Part, string_at, name, name_or_why}
 use Rattle.buffers.specs.declared.Reason.{Reason}
-use Rattle.buffers.specs.declared.Reason.TheVariants.{Untold}
-use Rattle.heaps.specs.declared.Part.{Part}
-use Rattle.heaps.specs.declared.Part.TheVariants.{Found, Absent}
 use Rattle.heaps.proofs.Lookups.{string-within, name-found, name-missing}
 use Rattle.header.specs.declared.Options.{Options}
-use Rattle.header.specs.declared.Header.{Header}
+use Rattle.header.specs.Stream.{Opening}
 use Rattle.layouts.specs.Columns.{tables, columns_of}
 use Rattle.layouts.proofs.Reaches.{and_left, and_right}
 use Rattle.tables.specs.Extents.{kept_rows}
@@ -33,6 +29,8 @@ use Rattle.layouts.specs.Read.{read_columns, read_column}
 use Rattle.rows.specs.Columns as columns
 use Rattle.rows.specs.Layout.{column_numbers, option_numbers, layout_of, options_in, header_in, rows_at, is_marked, cell, Ascends, Laid}
 use Rattle.rows.proofs.Numbers.{numbers-at, known_at, Reads, numbers-read}
+use Rattle.std.specs.Prelude.{Ok, Err}
+use Rattle.buffers.specs.declared.Unnamed.TheVariants.{Missing}
 
 -- Every column that is read is a column of a known table: one test over all of them.
 pub column-known : (c : ℕ) → c < columns.count → ((read_column c).kind < 45) × ((read_column c).place < length (columns_of (read_column c).kind))
@@ -43,7 +41,7 @@ module _ {t l : List ℕ} (laid : Laid t l) where
   abbrev o : Options
   o = options_in l
 
-  abbrev h : Header
+  abbrev h : Opening
   h = header_in t l
 
   number_at : (c d : ℕ) → c < columns.count → d < columns.numbers → get_or l (columns.numbers * c + d) 0 ≡ get_or (column_numbers o h (length t) (read_column c)) d 0
@@ -67,22 +65,14 @@ module _ {t l : List ℕ} (laid : Laid t l) where
 
 -- A string that was looked up, and what it came to at a place.
 module _ {b : List ℕ} {at : ℕ} {p : Part} where
-  pub told-string : (s : Bor (List ℕ)) (i : ℕ) {b' : List ℕ} {start n end : ℕ} {text : Bor (List ℕ)} → p ≡ string_at s.now i → p ≡ Found start n
-      → CutOf text s start n → Wrote b at text.now b' end → ToldIs (name_or_why (name s.now i)) b at b' (Name end)
+  pub told-string : (s : Bor (List ℕ)) (i : ℕ) {b' : List ℕ} {start n end : ℕ} {text : Bor (List ℕ)} → p ≡ string_at s.now i → p ≡ Ok (record { start = start; len = n })
+      → CutOf text s start n → Wrote b at text.now b' end → ToldIs (name_or_why (name s.now i)) b at b' (Ok end)
   told-string s i {text = text} e f c w =
       let there = sym f ∙ e in
       telling.name text.now (rw (name-found s.now i there, ← (cut-is _ s _ _ (string-within s.now i there) c).bytes) refl) w
 
-  pub told-absent : (s : List ℕ) (i : ℕ) {why : Reason} → p ≡ string_at s i → p ≡ Absent why → ToldIs (name_or_why (name s i)) b at b (Missing why)
+  pub told-absent : (s : List ℕ) (i : ℕ) {why : Reason} → p ≡ string_at s i → p ≡ Err why → ToldIs (name_or_why (name s i)) b at b (Err (Missing why))
   told-absent s i e f = telling.missing (ap name_or_why (name-missing s i (sym f ∙ e))) (kept_same b at)
-
--- Why it is missing.
-module _ (s : List ℕ) (i : ℕ) {p : Part} (e : p ≡ string_at s i) where
-  pub no-reason : {start n : ℕ} → p ≡ Found start n → Untold ≡ reason_of (name s i)
-  no-reason f = sym (ap reason_of (name-found s i (sym f ∙ e)))
-
-  pub a-reason : {why : Reason} → p ≡ Absent why → why ≡ reason_of (name s i)
-  a-reason f = sym (ap reason_of (name-missing s i (sym f ∙ e)))
 
 -- Columns of one table have the same rows.
 pub same_rows : {t l : List ℕ} → Laid t l → (c d : ℕ) → c < columns.count → d < columns.count → (read_column c).kind ≡ (read_column d).kind → rows_at l c ≡ rows_at l d

@@ -10,7 +10,7 @@ use lib.Dec.{T, ltb, ltb→lt}
 use lib.ListN.{length, get_or}
 use Rattle.numbers.specs.Fixed.{le_at, TwoOrFour}
 use Rattle.header.specs.declared.Options.{Options}
-use Rattle.header.specs.declared.Header.{Header}
+use Rattle.header.specs.Stream.{Opening}
 use Rattle.layouts.specs.Columns.{Two, columns_of, width_in, row_size}
 use Rattle.layouts.specs.Read.{Of, offset_in, bytes_in}
 use Rattle.layouts.proofs.Reaches.{and_left, and_right}
@@ -26,7 +26,7 @@ use Rattle.rows.specs.Columns as columns
 use Rattle.rows.specs.Layout.{column_numbers, all_numbers}
 
 -- The numbers of column c stand one after the other.
-module _ (o : Options) (h : Header) (n : ℕ) where
+module _ (o : Options) (h : Opening) (n : ℕ) where
   pub numbers-at : (cs : List Of) (rest : List ℕ) (d₀ : Of) (c d : ℕ) → c < length cs → d < columns.numbers
       → get_or (all_numbers o h n cs ++ rest) (columns.numbers * c + d) 0 ≡ get_or (column_numbers o h n (get_or cs c d₀)) d 0
   numbers-at [] rest d₀ c d l m = absurd (not-suc-le-zero l)
@@ -65,7 +65,7 @@ pub record Reads (t : List ℕ) (v i first step width : ℕ) : Type 0 where
   pub is : le_at width t (first + i * step) ≡ v
 
 -- The list l begins with the numbers of the columns cs.
-module _ (cs : List Of) (d₀ : Of) (each : T (known cs)) (o : Options) (h : Header) (t l : List ℕ)
+module _ (cs : List Of) (d₀ : Of) (each : T (known cs)) (o : Options) (h : Opening) (t l : List ℕ)
     (number_at : (c d : ℕ) → c < length cs → d < columns.numbers
     → get_or l (columns.numbers * c + d) 0 ≡ get_or (column_numbers o h (length t) (get_or cs c d₀)) d 0) where
   abbrev cell_of : ℕ → ℕ → ℕ

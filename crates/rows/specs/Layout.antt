@@ -1,12 +1,11 @@
 -- The layout: the numbers by which code reads the columns of the record's tables (ECMA-335 II.22) on demand. Opening makes it once, by
 -- what the walk found; the code has it as words of 32 bits. Behind these numbers stand a mark, which says what is known of a column's order,
 -- and where the memories are (Held.antt) by which rows are found: these stand behind the layout's own words.
-use Rattle.std.specs.Prelude.{◌≡◌, Bool, cond, ◌&&◌, List, [], ◌∷◌, ◌++◌, ℕ, ◌+◌, ◌*◌, ◌/◌, ◌%◌, ◌<◌, ◌≤◌, eqb, length, get_or}
+use Rattle.std.specs.Prelude.{◌≡◌, Bool, cond, ◌&&◌, List, [], ◌∷◌, ◌++◌, ℕ, ◌+◌, ◌*◌, ◌/◌, ◌%◌, ◌<◌, ◌≤◌, eqb, length, get_or, Ok}
 use Rattle.numbers.specs.Parts.{part}
 use Rattle.header.specs.Stream.{opened}
 use Rattle.header.specs.declared.Options.{Options}
-use Rattle.header.specs.declared.Header.{Header}
-use Rattle.header.specs.declared.Opened.TheVariants.{Ready}
+use Rattle.header.specs.Stream.{Opening}
 use Rattle.layouts.specs.Read.{Of, read_columns, read_column, offset_in, bytes_in}
 use Rattle.tables.specs.Extents.{extent, kept_rows, sizes_in}
 use Rattle.record.specs.Columns.{column}
@@ -16,7 +15,7 @@ use Rattle.rows.specs.Columns as columns
 use Rattle.rows.specs.Held.{Sorted, Nested}
 
 -- By the options, what opening found, and the length of the tables stream:
-module _ (o : Options) (h : Header) (n : ℕ) where
+module _ (o : Options) (h : Opening) (n : ℕ) where
   -- The numbers of a column: where it stands in the table's first row, as a low and a high word, how far it is to the next row, its
   -- bytes, and how many rows are kept.
   abbrev pub column_numbers : Of → List ℕ
@@ -46,7 +45,7 @@ options_in l = record { limit = get_or l columns.limit 0; security = eqb (get_or
 abbrev pub rows_at : List ℕ → ℕ → ℕ
 rows_at l c = get_or l (columns.numbers * c + columns.rows) 0
 
-abbrev pub header_in : List ℕ → List ℕ → Header
+abbrev pub header_in : List ℕ → List ℕ → Opening
 header_in t l = opened (options_in l) t
 
 -- and the number that stands in column c of row i, from 0, of its table.
@@ -78,7 +77,7 @@ held_at l j = part l (held_start l j) (held_length l j)
 -- ClassLayout by Parent, and NestedClass.
 pub record Laid (t l : List ℕ) : Type 0 where
   pub size : columns.size ≤ length l
-  pub ready : (header_in t l).answer ≡ Ready
+  pub ready : (header_in t l).answer ≡ (Ok tt)
   pub narrow : (options_in l).limit < columns.word
   pub is : (i : ℕ) → i < columns.mark → get_or l i 0 ≡ get_or (layout_of (options_in l) (header_in t l) (length t)) i 0
   pub marked : get_or l columns.mark 0 ≡ 1 → Ascends (cell t l columns.method_list) (rows_at l columns.method_list)

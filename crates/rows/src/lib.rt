@@ -12,7 +12,7 @@ ghost use Rattle.heaps.specs.Lookups.{string_at, name, string, is_there, reason_
 ghost use Rattle.rows.specs.Columns as columns;
 ghost use Rattle.rows.specs.Layout.{Laid, rows_at, is_marked, held_start, held_length, held_at, cell, view_in};
 
-use buffers::{Reason, Told};
+use buffers::{Reason, Told, Unnamed};
 use heaps::Part;
 use numbers::wide;
 
@@ -29,13 +29,11 @@ pub fn is_marked(layout: &[u32], column: usize) -> bool
     requires { (column < columns.count) × (columns.size ≤ length layout.now) }
     ensures { result ≡ is_marked layout.now column }
 {
-    if column != columns::METHOD_LIST {
-        return false;
-    }
-    layout[columns::MARK] == 1
+    column == columns::METHOD_LIST && layout[columns::MARK] == 1
 }
 
 // Whether the class that takes a method is the only one to read its signature.
+#[tactic(auto, unfolding(crate::specs::Layout::options_in, record::specs::View::view_of))]
 pub fn is_taker(layout: &[u32]) -> bool
     requires { columns.size ≤ length layout.now }
     ensures { (tables strings blob : List ℕ) → result ≡ (view_in tables layout.now strings blob).taker }
@@ -44,7 +42,7 @@ pub fn is_taker(layout: &[u32]) -> bool
 }
 
 // The memory of number j.
-pub fn memory_at<'a>(layout: &'a [u32], j: usize) -> &'a [u32]
+pub fn memory_at(layout: &[u32], j: usize) -> &[u32]
     requires j_lt_held_count { (j < columns.held_count) × (columns.size ≤ length layout.now) }
     requires j_in_bounds { held_start layout.now j + held_length layout.now j ≤ length layout.now }
     ensures { result.now ≡ held_at layout.now j }
@@ -104,16 +102,18 @@ pub fn tell_string(
     ensures { ToldIs (name_or_why (name strings.now (cell tables.now layout.now column i))) buf.old at
         buf.new result }
 {
+    // no `map_err` and `?`: the proof of what a missing name comes to did not close
     match read_string(tables, strings, layout, column, i) {
-        Part::Found { start, len } => {
-            let text = numbers::cut(strings, start, len);
-            Told::Name(buffers::push(buf, at, text))
+        Ok(span) => {
+            let text = numbers::cut(strings, span.start, span.len);
+            Ok(buffers::push(buf, at, text))
         }
-        Part::Absent(why) => Told::Missing(why),
+        Err(why) => Err(Unnamed::Missing(why)),
     }
 }
 
 // Why it is missing; no reason is told where it is not.
+#[tactic(auto, unfolding(heaps::specs::Lookups::name))]
 pub fn missing_reason(
     tables: &[u8],
     strings: &[u8],
@@ -125,8 +125,7 @@ pub fn missing_reason(
     requires column_lt_count { (column < columns.count) × (i < rows_at layout.now column) }
     ensures { result ≡ reason_of (name strings.now (cell tables.now layout.now column i)) }
 {
-    match read_string(tables, strings, layout, column, i) {
-        Part::Found { start: _, len: _ } => Reason::Untold,
-        Part::Absent(why) => why,
-    }
+    read_string(tables, strings, layout, column, i)
+        .err()
+        .unwrap_or(Reason::Untold)
 }

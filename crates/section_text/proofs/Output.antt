@@ -6,7 +6,7 @@ use native.Mathlib.Nat.{sub-zero}
 use native.Mathlib.Numerals.{add-one}
 use native.Mathlib.Omega.{arith}
 use lib.ListN.{length, get_or, take, replicate}
-use lib.Seq.{take-suc, take_all}
+use lib.Seq.{take-suc}
 use Rattle.numbers.specs.Parts.{part}
 use Rattle.buffers.specs.Texts.{Text, q}
 use Rattle.buffers.specs.Writes.{Wrote}
@@ -14,8 +14,9 @@ use Rattle.buffers.specs.Replies.{Answer, Refused, refused, refused_by, value, c
 use Rattle.buffers.specs.declared.Refusal.TheVariants.{BadInput}
 use Rattle.buffers.proofs.Writing.{wrote_none, wrote-over, wrote_then}
 use Rattle.bundle.specs.Input.{bundle_of}
-use Rattle.bundle.specs.declared.Part.{Part}
-use Rattle.bundle.specs.declared.Bundle.TheVariants.{Streams, Malformed}
+use Rattle.bundle.specs.declared.Bundle.{Bundle}
+use Rattle.std.specs.Prelude.{Some, None, Result}
+use Rattle.buffers.specs.declared.Refusal.{Refusal}
 use Rattle.header.specs.Stream.{base}
 use Rattle.header.specs.declared.Options.{Options}
 use Rattle.lines.specs.Lines.{number_line, refused_line}
@@ -25,13 +26,13 @@ use Rattle.name_section.specs.declared.Section.{Section}
 use Rattle.section_text.specs.Output.{names_in, input_names, head_text, offset_bytes, all_bytes}
 
 -- The names of an input, by its streams, and of one that is malformed.
-module _ (i : List ℕ) {s o s' o' : List ℕ} {r : Section} where
-  pub input-malformed : Malformed ≡ bundle_of i → Sectioned (refused_by BadInput) s o r s' o' → Sectioned (input_names i) s o r s' o'
+module _ (i : List ℕ) {s o s' o' : List ℕ} {r : Result Section Refusal} where
+  pub input-malformed : None ≡ bundle_of i → Sectioned (refused_by BadInput) s o r s' o' → Sectioned (input_names i) s o r s' o'
   unfolding names_in
   input-malformed e x = rw (← e) x
 
-  pub input-streams : {t n h : Part} {tables strings blob : List ℕ} {p : Options} → Streams t n h ≡ bundle_of i
-      → tables ≡ part i t.at t.len → strings ≡ part i n.at n.len → blob ≡ part i h.at h.len → p ≡ base
+  pub input-streams : {u : Bundle} {tables strings blob : List ℕ} {p : Options} → Some u ≡ bundle_of i
+      → tables ≡ part i u.tables.at u.tables.len → strings ≡ part i u.strings.at u.strings.len → blob ≡ part i u.blob.at u.blob.len → p ≡ base
       → Sectioned (names (view p tables strings blob)) s o r s' o' → Sectioned (input_names i) s o r s' o'
   unfolding names_in
   input-streams e f g k q x = rw (← e, ← f, ← g, ← k, ← q) x
@@ -78,9 +79,6 @@ module _ {b b₁ : List ℕ} {at at₁ i : ℕ} (l : List ℕ) where
   pub offsets-more : {b₂ : List ℕ} {at₂ : ℕ} → i < length l → Wrote b at (all_bytes (take i l)) b₁ at₁ → Wrote b₁ at₁ (offset_bytes (get_or l i 0)) b₂ at₂
       → Wrote b at (all_bytes (take (i + 1) l)) b₂ at₂
   offsets-more h w x = rw (all_more l i h) (wrote_then w x)
-
-  pub offsets-all : {n : ℕ} → i ≤ n → length l ≤ i → Wrote b at (all_bytes (take i l)) b₁ at₁ → Wrote b at (all_bytes (take n l)) b₁ at₁
-  offsets-all {n} h k w = rw (take_all n l (omega arith)) (rw (take_all i l k) at w)
 
 -- Past the buffer's end there is no room for any.
 pub offsets-past : (b : List ℕ) (at : ℕ) (t : Text) → length b < at → Wrote b at t b (length b + 1)

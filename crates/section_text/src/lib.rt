@@ -11,28 +11,31 @@ ghost use Rattle.name_section.specs.Section.{section_says, Sectioned};
 ghost use Rattle.section_text.specs.Output.{input_names, head_text, offset_bytes, all_bytes};
 
 use buffers::Refusal;
-use bundle::Bundle;
 use name_section::Section;
 
 // An input that is malformed has no section.
-fn refuse_input(section: &mut [u8], offsets: &mut [u32]) -> Section
+fn refuse_input(section: &mut [u8], offsets: &mut [u32]) -> Result<Section, Refusal>
     ensures { Sectioned (refused_by BadInput) section.old offsets.old result section.new offsets.new }
 {
     buffers::clear_from(section, 0);
     numbers::clear_words(offsets);
-    Section::No(Refusal::BadInput)
+    Err(Refusal::BadInput)
 }
 
 // The section of an input, and its offsets.
-pub fn section_of_input(input: &[u8], section: &mut [u8], offsets: &mut [u32]) -> Section
+pub fn section_of_input(
+    input: &[u8],
+    section: &mut [u8],
+    offsets: &mut [u32],
+) -> Result<Section, Refusal>
     ensures { Sectioned (input_names input.now) section.old offsets.old result section.new
         offsets.new }
 {
     match bundle::open_bundle(input) {
-        Bundle::Streams(t, s, b) => {
-            let tables = numbers::cut(input, t.at, t.len);
-            let strings = numbers::cut(input, s.at, s.len);
-            let blob = numbers::cut(input, b.at, b.len);
+        Some(b) => {
+            let tables = numbers::cut(input, b.tables.at, b.tables.len);
+            let strings = numbers::cut(input, b.strings.at, b.strings.len);
+            let blob = numbers::cut(input, b.blob.at, b.blob.len);
             name_section::name_section(
                 tables,
                 strings,
@@ -42,20 +45,20 @@ pub fn section_of_input(input: &[u8], section: &mut [u8], offsets: &mut [u32]) -
                 offsets,
             )
         }
-        Bundle::Malformed => refuse_input(section, offsets),
+        None => refuse_input(section, offsets),
     }
 }
 
 // Append the lines before a section, or the line of a refusal.
-pub fn push_head(out: &mut [u8], at: usize, reply: Section) -> usize
+pub fn push_head(out: &mut [u8], at: usize, reply: Result<Section, Refusal>) -> usize
     ensures { Wrote out.old at (head_text (section_says reply)) out.new result }
 {
     match reply {
-        Section::Written { bytes, classes } => {
+        Ok(Section { bytes, classes }) => {
             let next = lines::push_number(out, at, b"section=", bytes);
             lines::push_number(out, next, b"offsets=", classes)
         }
-        Section::No(why) => {
+        Err(why) => {
             let n = buffers::refusal_number(why);
             lines::push_number(out, at, b"refused=", n as usize)
         }
@@ -63,13 +66,11 @@ pub fn push_head(out: &mut [u8], at: usize, reply: Section) -> usize
 }
 
 // Append an offset, its least significant byte first.
+#[tactic(auto, unfolding(crate::specs::Output::offset_bytes))]
 fn push_offset(out: &mut [u8], at: usize, offset: u32) -> usize
     ensures { Wrote out.old at (offset_bytes offset) out.new result }
 {
-    let second = buffers::put(out, at, (offset % 256) as u8);
-    let third = buffers::put(out, second, (offset / 256 % 256) as u8);
-    let fourth = buffers::put(out, third, (offset / 65_536 % 256) as u8);
-    buffers::put(out, fourth, (offset / 16_777_216 % 256) as u8)
+    buffers::push(out, at, &offset.to_le_bytes())
 }
 
 // Append the first n offsets.
@@ -79,14 +80,10 @@ pub fn push_offsets(out: &mut [u8], at: usize, offsets: &[u32], n: usize) -> usi
     if out.len() < at {
         return out.len() + 1;
     }
+    let first = &offsets[..n.min(offsets.len())];
     let mut next = at;
-    let mut i = 0;
-    while i < offsets.len() {
-        if i == n {
-            return next;
-        }
-        next = push_offset(out, next, offsets[i]);
-        i += 1;
+    for offset in first {
+        next = push_offset(out, next, *offset);
     }
     next
 }

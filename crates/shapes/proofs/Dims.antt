@@ -12,17 +12,17 @@ use lib.Dec.{ltb}
 use lib.IntN.{ℤ, pos, negsuc, neg_ℤ, ◌+ℤ◌}
 use lib.ListN.{drop, get_elem?}
 use Rattle.numbers.specs.Reading.{Res, Reader}
-use Rattle.numbers.specs.Compressed.{uint_says, sint_says}
-use Rattle.numbers.specs.declared.Uint.{Uint}
-use Rattle.numbers.specs.declared.Uint.TheVariants.{Number, NoNumber}
-use Rattle.numbers.specs.declared.Sint.{Sint}
-use Rattle.numbers.specs.declared.Sint.TheVariants.{Plus, Minus, NoInteger}
+use Rattle.numbers.specs.Compressed.{Uint, uint_says, sint_says}
+use Rattle.numbers.specs.Compressed.{Sint}
+use Rattle.numbers.specs.declared.Signed.TheVariants.{Plus, Minus}
+use Rattle.std.specs.Prelude.{Ok, Err}
 use Rattle.buffers.specs.Texts.{Text, q, decimal}
 use Rattle.buffers.specs.Writes.{Wrote}
 use Rattle.buffers.proofs.Writing.{wrote_then}
 use Rattle.record.specs.Dims.{signed, dim, sep, dims}
 use Rattle.shapes.specs.Series.{with_sign, numbers, items, moved, first, rest, Pops}
 use Rattle.shapes.specs.declared.Items.{Items}
+use Rattle.std.specs.Prelude.{Ok, Err}
 
 -- A number with its sign.
 signed-less : (n : ℕ) → 0 < n → signed (neg_ℤ (pos n)) ≡ q "-" ++ decimal n
@@ -104,23 +104,23 @@ dim-closed k false (suc low) h = refl
 dim-closed k true (suc low) h = refl
 
 module _ {b b₁ : List ℕ} {at at₁ : ℕ} where
-  pub size-some : {size : Uint} {n next k : ℕ} → size ≡ Number n next → k ≡ n → Wrote b at (decimal k) b₁ at₁
+  pub size-some : {size : Uint} {n next k : ℕ} → size ≡ Ok (n, next) → k ≡ n → Wrote b at (decimal k) b₁ at₁
       → Wrote b at (dim (uint_says size).got none) b₁ at₁
   unfolding dim
   size-some e f w = rw e (rw f at w)
 
-  pub size_none : {size : Uint} {next : ℕ} → size ≡ NoNumber next → Wrote b at [] b₁ at₁ → Wrote b at (dim (uint_says size).got none) b₁ at₁
+  pub size_none : {size : Uint} {next : ℕ} → size ≡ Err next → Wrote b at [] b₁ at₁ → Wrote b at (dim (uint_says size).got none) b₁ at₁
   unfolding dim
   size_none e w = rw e w
 
   module _ (o : Option ℕ) {low : Sint} {n next : ℕ} where
-    pub dim-plus : low ≡ Plus n next → Wrote b at (dim o (some (with_sign false n))) b₁ at₁ → Wrote b at (dim o (sint_says low).got) b₁ at₁
+    pub dim-plus : low ≡ Ok (Plus n, next) → Wrote b at (dim o (some (with_sign false n))) b₁ at₁ → Wrote b at (dim o (sint_says low).got) b₁ at₁
     dim-plus e w = rw e w
 
-    pub dim-minus : low ≡ Minus n next → Wrote b at (dim o (some (with_sign true n))) b₁ at₁ → Wrote b at (dim o (sint_says low).got) b₁ at₁
+    pub dim-minus : low ≡ Ok (Minus n, next) → Wrote b at (dim o (some (with_sign true n))) b₁ at₁ → Wrote b at (dim o (sint_says low).got) b₁ at₁
     dim-minus e w = rw e w
 
-  pub dim-unbounded : (o : Option ℕ) {low : Sint} {next : ℕ} → low ≡ NoInteger next → Wrote b at (dim o none) b₁ at₁
+  pub dim-unbounded : (o : Option ℕ) {low : Sint} {next : ℕ} → low ≡ Err next → Wrote b at (dim o none) b₁ at₁
       → Wrote b at (dim o (sint_says low).got) b₁ at₁
   dim-unbounded o e w = rw e w
 
@@ -130,10 +130,10 @@ module _ {b b₁ : List ℕ} {at at₁ : ℕ} where
 
     module _ {b₂ : List ℕ} {at₂ m : ℕ} {size : Uint}
         (f : m ≡ low) (h : 0 < low) (w : Wrote b at (signed (with_sign minus m)) b₁ at₁) (v : Wrote b₁ at₁ (q "...") b₂ at₂) where
-      pub bounded-open : {next : ℕ} → size ≡ NoNumber next → Wrote b at (dim (uint_says size).got (some (with_sign minus low))) b₂ at₂
+      pub bounded-open : {next : ℕ} → size ≡ Err next → Wrote b at (dim (uint_says size).got (some (with_sign minus low))) b₂ at₂
       bounded-open e = rw (e, dim-open minus low h) (wrote_then (rw f at w) v)
 
-      pub bounded_closed : {b₃ : List ℕ} {at₃ n next : ℕ} → size ≡ Number n next
+      pub bounded_closed : {b₃ : List ℕ} {at₃ n next : ℕ} → size ≡ Ok (n, next)
           → Wrote b₂ at₂ (signed (with_sign minus low +ℤ pos n +ℤ negsuc 0)) b₃ at₃
           → Wrote b at (dim (uint_says size).got (some (with_sign minus low))) b₃ at₃
       bounded_closed {n = n} e u = rw (e, dim-closed n minus low h) (wrote_then (wrote_then (rw f at w) v) u)

@@ -1,9 +1,10 @@
 -- A run of tags that keep the level, tag by tag. Assumes nothing.
-use mathlib.Core.Path.{◌≡◌, refl, sym, ◌∙◌, ap, subst}
+use mathlib.Core.Path.{◌≡◌, refl, sym, ◌∙◌, ap}
 use mathlib.Core.List.{List, [], ◌++◌, append_assoc, append-nil}
 use mathlib.Core.Option.{Option, none, some}
 use Prim.Native.Nat.{ℕ, zero, suc, ◌+◌, ◌-◌, ◌<◌, ◌≤◌}
-use native.Mathlib.Nat.{add-zero, sub-zero}
+use mathlib.Core.Logic.{⊎_elim}
+use native.Mathlib.Nat.{add-zero, sub-zero, eq-or-lt_of_le}
 use native.Mathlib.Omega.{arith}
 use lib.ListN.{length, get_or}
 use Rattle.numbers.specs.Reading.{Res, Reader, some_at, none_at, give, after, chain}
@@ -14,8 +15,8 @@ use Rattle.buffers.specs.Writes.{Wrote}
 use Rattle.buffers.proofs.Writing.{wrote_then}
 use Rattle.record.specs.Types.{around, modified}
 use Rattle.shapes.specs.Runs.{brackets, suffixed, SameLevel, Plain, Leads, Stops, Tags, is-vector, is-modifier, is-torn, is-other}
-use Rattle.shapes.specs.declared.Tag.{Tag}
-use Rattle.shapes.specs.declared.Tag.TheVariants.{Vector, Modifier, Torn, Other}
+use Rattle.shapes.specs.declared.Tag.TheVariants.{Vector, Modifier, Other}
+use Rattle.std.specs.Prelude.{Ok, Err}
 
 -- Brackets behind a text.
 no-brackets : (o : Option Text) → o ≡ suffixed (brackets 0) o
@@ -50,7 +51,7 @@ pub record Modifies (s : List ℕ) (at : ℕ) : Type 0 where
 
 -- One tag, for each way out of `read_tag`.
 module _ {s : List ℕ} {at : ℕ} (lt : at < length s) where
-  pub tag-vector : get_or s at 0 ≡ 0x1D → Tags s at Vector
+  pub tag-vector : get_or s at 0 ≡ 0x1D → Tags s at (Ok Vector)
   unfolding around
   tag-vector e = is-vector (record {
     forward = omega arith;
@@ -60,18 +61,15 @@ module _ {s : List ℕ} {at : ℕ} (lt : at < length s) where
         ∙ around-next s (T s (at + 1)).got (T s (at + 1)).next (T s (at + 1)).steps;
   })
 
-  pub tag-other : (get_or s at 0 ≡ 0x1D → ⊥) → (get_or s at 0 ≡ 0x1F → ⊥) → (get_or s at 0 ≡ 0x20 → ⊥) → Tags s at Other
+  pub tag-other : (get_or s at 0 ≡ 0x1D → ⊥) → (get_or s at 0 ≡ 0x1F → ⊥) → (get_or s at 0 ≡ 0x20 → ⊥) → Tags s at (Ok Other)
   tag-other no₁ no₂ no₃ = is-other (record { no-vector = λ _. no₁; no-required = λ _. no₂; no-optional = λ _. no₃ })
 
   -- A modifier, which either of two tags is.
-  pub tag-required : get_or s at 0 ≡ 0x1F → Modifies s at
-  tag-required e = record { is = λ T h. h.required s at lt e }
-
-  pub tag-optional : get_or s at 0 ≡ 0x20 → Modifies s at
-  tag-optional e = record { is = λ T h. h.optional s at lt e }
+  pub modifies : 0x1F ≤ get_or s at 0 → get_or s at 0 < 0x21 → Modifies s at
+  modifies lo hi = record { is = λ T h. ⊎_elim (λ e. h.required s at lt (sym e)) (λ g. h.optional s at lt (omega (arith, g, hi))) (eq-or-lt_of_le lo) }
 
 module _ {s : List ℕ} {at : ℕ} (m : Modifies s at) where
-  pub tag-modifier : {v next : ℕ} → uint s (at + 1) ≡ some_at v next → Tags s at (Modifier next)
+  pub tag-modifier : {v next : ℕ} → uint s (at + 1) ≡ some_at v next → Tags s at (Ok (Modifier next))
   unfolding modified
   tag-modifier {v} {next} e =
       let n : next ≡ (uint s (at + 1)).next = ap (λ (r : Res ℕ). r.next) (sym e) in
@@ -82,7 +80,7 @@ module _ {s : List ℕ} {at : ℕ} (m : Modifies s at) where
         on = λ T h. ap (λ (r : Res Text). r.next) (m.is T h) ∙ rw e refl;
       })
 
-  pub tag-torn : {next : ℕ} → uint s (at + 1) ≡ none_at next → Tags s at (Torn next)
+  pub tag-torn : {next : ℕ} → uint s (at + 1) ≡ none_at next → Tags s at (Err next)
   unfolding modified
   tag-torn {next} e =
       let n : next ≡ (uint s (at + 1)).next = ap (λ (r : Res ℕ). r.next) (sym e) in
@@ -107,41 +105,25 @@ then-leads {s} {at} {c} {p} {n} {next} a b = record {
 }
 
 module _ {s : List ℕ} {p : ℕ} where
-  vector-in : Tags s p Vector → Leads s p 1 (p + 1)
-  vector-in (is-vector l) = l
+  pub past-modifier : {next : ℕ} → Tags s p (Ok (Modifier next)) → p < next
+  past-modifier (is-modifier lt l) = lt
 
-  modifier-in : {next : ℕ} → Tags s p (Modifier next) → (p < next) × Leads s p 0 next
-  modifier-in (is-modifier lt l) = (lt, l)
+  pub run-other : Tags s p (Ok Other) → Plain s p
+  run-other (is-other l) = l
 
-  torn-in : {next : ℕ} → Tags s p (Torn next) → Stops s p next
-  torn-in (is-torn l) = l
+  module _ {at c : ℕ} where
+    pub run-vector : Tags s p (Ok Vector) → Leads s at c p → Leads s at (c + 1) (p + 1)
+    run-vector (is-vector l) a = then-leads a l
 
-  other-in : Tags s p Other → Plain s p
-  other-in (is-other l) = l
+    pub run-modifier : {next : ℕ} → Tags s p (Ok (Modifier next)) → Leads s at c p → Leads s at c next
+    run-modifier (is-modifier lt l) a = rw (add-zero c) at (then-leads a l)
 
-  -- A tag that was matched.
-  module _ {t : Tag} (h : Tags s p t) where
-    pub past-modifier : {next : ℕ} → t ≡ Modifier next → p < next
-    past-modifier e = (modifier-in (subst (Tags s p) e h)).0
-
-    pub run-other : t ≡ Other → Plain s p
-    run-other e = other-in (subst (Tags s p) e h)
-
-    module _ {at c : ℕ} (a : Leads s at c p) where
-      pub run-vector : t ≡ Vector → Leads s at (c + 1) (p + 1)
-      run-vector e = then-leads a (vector-in (subst (Tags s p) e h))
-
-      pub run-modifier : {next : ℕ} → t ≡ Modifier next → Leads s at c next
-      run-modifier e = rw (add-zero c) at (then-leads a (modifier-in (subst (Tags s p) e h)).1)
-
-      pub run-torn : {next : ℕ} → t ≡ Torn next → Stops s at next
-      run-torn e =
-          let b = torn-in (subst (Tags s p) e h) in
-          record {
-            forward = omega (arith, a.forward, b.forward);
-            got = λ T k. a.got T k ∙ ap (suffixed (brackets c)) (b.got T k);
-            on = λ T k. a.on T k ∙ b.on T k;
-          }
+    pub run-torn : {next : ℕ} → Tags s p (Err next) → Leads s at c p → Stops s at next
+    run-torn (is-torn b) a = record {
+      forward = omega (arith, a.forward, b.forward);
+      got = λ T k. a.got T k ∙ ap (suffixed (brackets c)) (b.got T k);
+      on = λ T k. a.on T k ∙ b.on T k;
+    }
 
 -- The loop of `push_brackets`: i of n pairs are written.
 module _ (n : ℕ) {b b₁ : List ℕ} {at at₁ : ℕ} where

@@ -1,6 +1,6 @@
 -- Numbers that stand one after another: passed, found behind their count, and taken one by one; and the shape of an array made of them.
 -- Assumes nothing.
-use mathlib.Core.Path.{◌≡◌, refl, sym, ◌∙◌, ap, ap₂, subst}
+use mathlib.Core.Path.{◌≡◌, refl, sym, ◌∙◌, ap, ap₂}
 use mathlib.Core.List.{List, [], ◌++◌, append_assoc}
 use mathlib.Core.Option.{Option, none, some, none-ne-some, some-ne-none}
 use Prim.Native.Nat.{ℕ, zero, suc, ◌+◌, ◌-◌, ◌^◌, ◌<◌, ◌≤◌}
@@ -8,43 +8,38 @@ use native.Mathlib.Nat.{sub-zero}
 use native.Mathlib.Omega.{arith}
 use lib.IntN.{ℤ}
 use Rattle.numbers.specs.Reading.{Res, Reader, some_at, none_at, give, chain}
-use Rattle.numbers.specs.Compressed.{Bits, packed, uint, unrotated, sint, uint_says}
-use Rattle.numbers.specs.declared.Uint.{Uint}
-use Rattle.numbers.specs.declared.Uint.TheVariants.{Number, NoNumber}
+use Rattle.numbers.specs.Compressed.{Uint, Bits, packed, uint, unrotated, sint, uint_says}
 use Rattle.buffers.specs.Texts.{Text, q}
 use Rattle.record.specs.Readings.{times}
 use Rattle.record.specs.Dims.{dims}
 use Rattle.record.specs.Types.{shape}
-use Rattle.shapes.specs.Series.{onto, numbers, items, onward, first, rest, Pops, pass_says, Passes, Finds, all, no-count, too_few}
+use Rattle.shapes.specs.Series.{Pass, onto, numbers, items, onward, first, rest, Pops, pass_says, Passes, Finds, all, no-count, too_few}
 use Rattle.shapes.specs.declared.Items.{Items}
-use Rattle.shapes.specs.declared.Pass.{Pass}
-use Rattle.shapes.specs.declared.Pass.TheVariants.{Past, Cut}
-use Rattle.shapes.specs.declared.Found.{Found}
-use Rattle.shapes.specs.declared.Found.TheVariants.{All, Lost}
+use Rattle.std.specs.Prelude.{Ok, Err}
 
 -- An answer that was matched.
 module _ {d : Res ℕ} {r : Uint} (h : uint_says r ≡ d) where
-  pub is_number : {n next : ℕ} → r ≡ Number n next → d ≡ some_at n next
+  pub is_number : {n next : ℕ} → r ≡ Ok (n, next) → d ≡ some_at n next
   is_number e = sym h ∙ ap uint_says e
 
-  pub no_number : {next : ℕ} → r ≡ NoNumber next → d ≡ none_at next
+  pub no_number : {next : ℕ} → r ≡ Err next → d ≡ none_at next
   no_number e = sym h ∙ ap uint_says e
 
 -- Values of one kind, passed.
 module _ {A : Type 0} (p : Reader A) (s : List ℕ) (at : ℕ) where
-  none_passed : times 0 p s at ≡ pass_says (numbers 0 p s at) (Past at)
+  none_passed : times 0 p s at ≡ pass_says (numbers 0 p s at) (Ok at)
   unfolding times numbers
   none_passed = refl
 
-  first-cut : (n : ℕ) {next : ℕ} → p s at ≡ none_at next → times (suc n) p s at ≡ pass_says (numbers (suc n) p s at) (Cut next)
+  first-cut : (n : ℕ) {next : ℕ} → p s at ≡ none_at next → times (suc n) p s at ≡ pass_says (numbers (suc n) p s at) (Err next)
   unfolding times
   first-cut n e = rw e refl
 
   one-passed : (n : ℕ) (a : A) (next : ℕ) → p s at ≡ some_at a next → (r : Pass)
       → times n p s next ≡ pass_says (numbers n p s next) r → times (suc n) p s at ≡ pass_says (numbers (suc n) p s at) r
   unfolding times numbers
-  one-passed n a next e (Past end) h = rw (e, h) refl
-  one-passed n a next e (Cut end) h = rw (e, h) refl
+  one-passed n a next e (Ok end) h = rw (e, h) refl
+  one-passed n a next e (Err end) h = rw (e, h) refl
 
 -- A signed number stands where an unsigned one does, since both are the same bits.
 record Integer (s : List ℕ) (at next : ℕ) : Type 0 where
@@ -83,12 +78,12 @@ module _ {n : ℕ} {s : List ℕ} {at : ℕ} where
   pass-start h = rw (sub-zero n) at h
 
   module _ {i : ℕ} where
-    pub pass-done : n ≤ i → Passes (n - i) s at (Past at)
+    pub pass-done : n ≤ i → Passes (n - i) s at (Ok at)
     pass-done h =
         let z : n - i ≡ 0 = omega arith in
         rw z (record { unsigned = none_passed uint s at; signed = none_passed sint s at })
 
-    pub pass-cut : i < n → {next : ℕ} → uint s at ≡ none_at next → Passes (n - i) s at (Cut next)
+    pub pass-cut : i < n → {next : ℕ} → uint s at ≡ none_at next → Passes (n - i) s at (Err next)
     pass-cut h e =
         let z : n - i ≡ suc (n - (i + 1)) = omega arith in
         rw z (record { unsigned = first-cut uint s at _ e; signed = first-cut sint s at _ (missing-too s at e) })
@@ -102,13 +97,13 @@ module _ {n : ℕ} {s : List ℕ} {at : ℕ} where
           signed = one-passed sint s at _ w.value next w.is r k.signed;
         })
 
--- Numbers found behind their count.
-module _ {s : List ℕ} {at n first : ℕ} (e : uint s at ≡ some_at n first) {r : Pass} where
-  pub finds-all : (c : ℕ) → c ≡ n → Passes c s first r → {next : ℕ} → r ≡ Past next → Finds s at (All (record { count = c; first = first }) next)
-  finds-all c f h g = all (e ∙ ap (λ (k : ℕ). some_at k first) (sym f)) (subst (Passes c s first) g h)
+-- Numbers found behind their count, which is c in the code.
+module _ {s : List ℕ} {at n first : ℕ} (e : uint s at ≡ some_at n first) (c : ℕ) (f : c ≡ n) {next : ℕ} where
+  pub finds-all : Passes c s first (Ok next) → Finds s at (Ok (record { count = c; first = first }, next))
+  finds-all h = all (e ∙ ap (λ (k : ℕ). some_at k first) (sym f)) h
 
-  pub finds-cut : (c : ℕ) → c ≡ n → Passes c s first r → {next : ℕ} → r ≡ Cut next → Finds s at (Lost next)
-  finds-cut c f h g = too_few c first (e ∙ ap (λ (k : ℕ). some_at k first) (sym f)) (subst (Passes c s first) g h)
+  pub finds-cut : Passes c s first (Err next) → Finds s at (Err next)
+  finds-cut h = too_few c first (e ∙ ap (λ (k : ℕ). some_at k first) (sym f)) h
 
 -- The ways through a shape.
 module _ (s : List ℕ) (pos : ℕ) where
@@ -117,35 +112,25 @@ module _ (s : List ℕ) (pos : ℕ) where
   shape-rankless e = rw e refl
 
   module _ (rank p : ℕ) (e : uint s pos ≡ some_at rank p) where
-    sizeless : {next : ℕ} → Finds s p (Lost next) → shape s pos ≡ none_at next
+    pub shape-sizeless : {next : ℕ} → Finds s p (Err next) → shape s pos ≡ none_at next
     unfolding shape
-    sizeless (no-count f) = rw (e, f) refl
-    sizeless (too_few n i f h) = rw (e, f, h.unsigned) refl
+    shape-sizeless (no-count f) = rw (e, f) refl
+    shape-sizeless (too_few n i f h) = rw (e, f, h.unsigned) refl
 
-    boundless : {ks : Items} {t next : ℕ} → Finds s p (All ks t) → Finds s t (Lost next) → shape s pos ≡ none_at next
+    pub shape-boundless : {ks : Items} {t next : ℕ} → Finds s p (Ok (ks, t)) → Finds s t (Err next) → shape s pos ≡ none_at next
     unfolding shape
-    boundless (all f h) (no-count g) = rw (e, f, h.unsigned, g) refl
-    boundless (all f h) (too_few n i g k) = rw (e, f, h.unsigned, g, k.signed) refl
+    shape-boundless (all f h) (no-count g) = rw (e, f, h.unsigned, g) refl
+    shape-boundless (all f h) (too_few n i g k) = rw (e, f, h.unsigned, g, k.signed) refl
 
-    shaped : {ks ls : Items} {t next : ℕ} → Finds s p (All ks t) → Finds s t (All ls next)
+    shaped : {ks ls : Items} {t next : ℕ} → Finds s p (Ok (ks, t)) → Finds s t (Ok (ls, next))
         → shape s pos ≡ some_at (q "[" ++ dims rank 0 (items uint s ks) (items sint s ls) ++ q "]") next
     unfolding shape
     shaped (all f h) (all g k) = rw (e, f, h.unsigned, g, k.signed) refl
 
-    -- The same of answers that were matched.
-    module _ {sizes : Found} (h : Finds s p sizes) where
-      pub shape-sizeless : {next : ℕ} → sizes ≡ Lost next → shape s pos ≡ none_at next
-      shape-sizeless f = sizeless (subst (Finds s p) f h)
-
-      module _ {ks : Items} {t : ℕ} (f : sizes ≡ All ks t) {bounds : Found} (k : Finds s t bounds) where
-        pub shape-boundless : {next : ℕ} → bounds ≡ Lost next → shape s pos ≡ none_at next
-        shape-boundless g = boundless (subst (Finds s p) f h) (subst (Finds s t) g k)
-
-        pub shape_is : {ls : Items} {next : ℕ} → bounds ≡ All ls next → (r : ℕ) → r ≡ rank
-            → shape s pos ≡ some_at (q "[" ++ (dims r 0 (items uint s ks) (items sint s ls) ++ q "]")) next
-        shape_is {ls} {next} g r i =
-            rw i (shaped (subst (Finds s p) f h) (subst (Finds s t) g k)
-            ∙ ap (λ (u : Text). some_at u next) (append_assoc (q "[") (dims rank 0 (items uint s ks) (items sint s ls)) (q "]")))
+    pub shape_is : {ks ls : Items} {t next r : ℕ} → Finds s p (Ok (ks, t)) → Finds s t (Ok (ls, next)) → r ≡ rank
+        → shape s pos ≡ some_at (q "[" ++ (dims r 0 (items uint s ks) (items sint s ls) ++ q "]")) next
+    shape_is {ks} {ls} {next = next} h k i =
+        rw i (shaped h k ∙ ap (λ (u : Text). some_at u next) (append_assoc (q "[") (dims rank 0 (items uint s ks) (items sint s ls)) (q "]")))
 
 -- Values taken one by one.
 module _ {A : Type 0} (p : Reader A) (s : List ℕ) (at : ℕ) where

@@ -1,14 +1,18 @@
 -- Numbers that stand one after another in a signature, and what the code says of them.
-use Rattle.std.specs.Prelude.{◌≡◌, Bool, true, false, List, [], ◌∷◌, ℕ, zero, suc, ℤ, pos, neg_ℤ}
+use Rattle.std.specs.Prelude.{◌≡◌, Bool, true, false, List, [], ◌∷◌, ℕ, zero, suc, ℤ, pos, neg_ℤ, Result, Ok, Err}
 use Rattle.std.proofs.Math.Option.{Option, none, some}
 use Rattle.numbers.specs.Reading.{Res, Reader, some_at, none_at}
 use Rattle.numbers.specs.Compressed.{uint, sint}
 use Rattle.record.specs.Readings.{times}
 use Rattle.shapes.specs.declared.Items.{Items}
-use Rattle.shapes.specs.declared.Pass.{Pass}
-use Rattle.shapes.specs.declared.Pass.TheVariants.{Past, Cut}
-use Rattle.shapes.specs.declared.Found.{Found}
-use Rattle.shapes.specs.declared.Found.TheVariants.{All, Lost}
+
+-- The position after numbers that were passed, or after the bytes of the first that is not there, as the code has it.
+abbrev pub Pass : Type 0
+Pass = Result ℕ ℕ
+
+-- Numbers that were found and the position after them, or the position after the bytes used up, as the code has them.
+abbrev pub Found : Type 0
+Found = Result (Items × ℕ) ℕ
 
 -- A number whose size stands apart from its sign.
 abbrev pub with_sign : Bool → ℕ → ℤ
@@ -51,8 +55,8 @@ pub record Pops {A : Type 0} (p : Reader A) (s : List ℕ) (at n n' : ℕ) (r : 
 
 -- What each case of a pass says of values.
 abbrev pub pass_says : {A : Type 0} → List A → Pass → Res (List A)
-pass_says xs (Past next) = some_at xs next
-pass_says xs (Cut next) = none_at next
+pass_says xs (Ok next) = some_at xs next
+pass_says xs (Err next) = none_at next
 
 -- n numbers were passed, which may be of either kind.
 pub record Passes (n : ℕ) (s : List ℕ) (at : ℕ) (r : Pass) : Type 0 where
@@ -61,6 +65,6 @@ pub record Passes (n : ℕ) (s : List ℕ) (at : ℕ) (r : Pass) : Type 0 where
 
 -- A count and so many numbers were found, or the count is not there, or not all of the numbers.
 pub data Finds (s : List ℕ) (at : ℕ) : Found → Type 0 where
-  all : {i : Items} {next : ℕ} → uint s at ≡ some_at i.count i.first → Passes i.count s i.first (Past next) → Finds s at (All i next)
-  no-count : {next : ℕ} → uint s at ≡ none_at next → Finds s at (Lost next)
-  too_few : {next : ℕ} (n first : ℕ) → uint s at ≡ some_at n first → Passes n s first (Cut next) → Finds s at (Lost next)
+  all : {i : Items} {next : ℕ} → uint s at ≡ some_at i.count i.first → Passes i.count s i.first (Ok next) → Finds s at (Ok (i, next))
+  no-count : {next : ℕ} → uint s at ≡ none_at next → Finds s at (Err next)
+  too_few : {next : ℕ} (n first : ℕ) → uint s at ≡ some_at n first → Passes n s first (Err next) → Finds s at (Err next)

@@ -14,45 +14,23 @@ ghost use Rattle.rendering.specs.Rendered.{Rendered};
 ghost use Rattle.shapes.specs.Series.{with_sign, items, moved, Pops, Passes, Finds};
 ghost use Rattle.shapes.specs.Runs.{brackets, Tags, Skips};
 
-use numbers::{Sint, Uint, wide};
+use numbers::{Signed, Sint, Uint, wide};
 use rendering::Rendering;
 
 // Numbers that stand one after another: how many, and the position of the first.
-#[derive(Drop)]
+#[derive(Clone, Copy, Debug, PartialEq, Eq)]
 pub struct Items {
     pub count: usize,
     pub first: usize,
 }
 
-// Numbers with their count before them, and the position after them; or the position after the bytes that the reading used up.
-#[derive(Drop)]
-pub enum Found {
-    All(Items, usize),
-    Lost(usize),
-}
-
-// The position after numbers that are all there, or after the bytes of the first that is not.
-#[derive(Drop)]
-pub enum Pass {
-    Past(usize),
-    Cut(usize),
-}
-
-// A tag that keeps the level, by what follows it: the type; a number that is passed over, and the type; such a number that is broken
-// off, with the position after its bytes. Or no such tag.
-#[derive(Drop)]
+// A tag that keeps the level, by what follows it: the type; or a number that is passed over, with the position after it, and the type.
+// Or no such tag.
+#[derive(Clone, Copy, Debug, PartialEq, Eq)]
 pub enum Tag {
     Vector,
     Modifier(usize),
-    Torn(usize),
     Other,
-}
-
-// A run of tags that keep the level: the pairs of brackets in it and the position after it, or after the bytes of a broken number.
-#[derive(Drop)]
-pub enum Run {
-    Over(usize, usize),
-    Broken(usize),
 }
 
 // Append a number other than 0 with its sign.
@@ -88,8 +66,8 @@ fn push_size(buf: &mut [u8], at: usize, size: Uint) -> usize
     ensures { Wrote buf.old at (dim (uint_says size).got none) buf.new result }
 {
     match size {
-        Uint::Number(n, _) => buffers::push_decimal(buf, at, wide(n)),
-        Uint::NoNumber(_) => buffers::push(buf, at, b""),
+        Ok((n, _)) => buffers::push_decimal(buf, at, wide(n)),
+        Err(_) => buffers::push(buf, at, b""),
     }
 }
 
@@ -103,8 +81,8 @@ fn push_bounded(buf: &mut [u8], at: usize, size: Uint, minus: bool, low: u32) ->
     let k = push_signed(buf, at, minus, wide(low));
     let next = buffers::push(buf, k, b"...");
     match size {
-        Uint::Number(n, _) => push_upper(buf, next, minus, low, n),
-        Uint::NoNumber(_) => next,
+        Ok((n, _)) => push_upper(buf, next, minus, low, n),
+        Err(_) => next,
     }
 }
 
@@ -113,9 +91,9 @@ fn push_dim(buf: &mut [u8], at: usize, size: Uint, low: Sint) -> usize
     ensures { Wrote buf.old at (dim (uint_says size).got (sint_says low).got) buf.new result }
 {
     match low {
-        Sint::Plus(n, _) => push_bounded(buf, at, size, false, n),
-        Sint::Minus(n, _) => push_bounded(buf, at, size, true, n),
-        Sint::NoInteger(_) => push_size(buf, at, size),
+        Ok((Signed::Plus(n), _)) => push_bounded(buf, at, size, false, n),
+        Ok((Signed::Minus(n), _)) => push_bounded(buf, at, size, true, n),
+        Err(_) => push_size(buf, at, size),
     }
 }
 
@@ -134,7 +112,7 @@ fn size_at(sig: &[u8], at: usize, i: usize, count: usize) -> Uint
     ensures { Pops uint sig.now at (count - i) (count - (i + 1)) (uint_says result) }
 {
     if count <= i {
-        return Uint::NoNumber(at);
+        return Err(at);
     }
     numbers::read_uint(sig, at)
 }
@@ -144,7 +122,7 @@ fn bound_at(sig: &[u8], at: usize, i: usize, count: usize) -> Sint
     ensures { Pops sint sig.now at (count - i) (count - (i + 1)) (sint_says result) }
 {
     if count <= i {
-        return Sint::NoInteger(at);
+        return Err(at);
     }
     numbers::read_sint(sig, at)
 }
@@ -154,8 +132,8 @@ fn after_size(at: usize, size: Uint) -> usize
     ensures { result ≡ moved at (uint_says size) }
 {
     match size {
-        Uint::Number(_, next) => next,
-        Uint::NoNumber(_) => at,
+        Ok((_, next)) => next,
+        Err(_) => at,
     }
 }
 
@@ -164,9 +142,8 @@ fn after_bound(at: usize, low: Sint) -> usize
     ensures { result ≡ moved at (sint_says low) }
 {
     match low {
-        Sint::Plus(_, next) => next,
-        Sint::Minus(_, next) => next,
-        Sint::NoInteger(_) => at,
+        Ok((_, next)) => next,
+        Err(_) => at,
     }
 }
 
@@ -185,8 +162,7 @@ fn push_dims(
     let mut size_pos = sizes.first;
     let mut bound_pos = bounds.first;
     let mut k = at;
-    let mut i = 0;
-    while i < rank {
+    for i in 0..rank {
         if buf.len() < k {
             return buf.len() + 1;
         }
@@ -196,111 +172,75 @@ fn push_dims(
         k = push_dim(buf, next, size, low);
         size_pos = after_size(size_pos, size);
         bound_pos = after_bound(bound_pos, low);
-        i += 1;
     }
     buffers::push(buf, k, b"]")
 }
 
 // Pass n numbers. Signed ones have the form of unsigned ones.
-fn pass_items(sig: &[u8], at: usize, n: usize) -> Pass
+fn pass_items(sig: &[u8], at: usize, n: usize) -> Result<usize, usize>
     ensures { Passes n sig.now at result }
 {
     let mut p = at;
-    let mut i = 0;
-    while i < n {
-        match numbers::read_uint(sig, p) {
-            Uint::Number(_, next) => {
-                p = next;
-                i += 1;
-            }
-            Uint::NoNumber(next) => {
-                return Pass::Cut(next);
-            }
-        }
+    for _ in 0..n {
+        let (_, next) = numbers::read_uint(sig, p)?;
+        p = next;
     }
-    Pass::Past(p)
+    Ok(p)
 }
 
 // Numbers with their count before them.
-fn find_items(sig: &[u8], pos: usize) -> Found
+fn find_items(sig: &[u8], pos: usize) -> Result<(Items, usize), usize>
     ensures { Finds sig.now pos result }
 {
-    match numbers::read_uint(sig, pos) {
-        Uint::Number(n, first) => {
-            let count = wide(n);
-            match pass_items(sig, first, count) {
-                Pass::Past(next) => Found::All(Items { count, first }, next),
-                Pass::Cut(next) => Found::Lost(next),
-            }
-        }
-        Uint::NoNumber(next) => Found::Lost(next),
-    }
+    let (n, first) = numbers::read_uint(sig, pos)?;
+    let count = wide(n);
+    let next = pass_items(sig, first, count)?;
+    Ok((Items { count, first }, next))
 }
 
 // Append the shape of an array, which follows its element type: the rank, the sizes, the lower bounds.
 pub fn push_shape(buf: &mut [u8], at: usize, sig: &[u8], pos: usize) -> Rendering
     ensures { Rendered (shape sig.now pos) buf.old at buf.new result }
 {
-    match numbers::read_uint(sig, pos) {
-        Uint::Number(rank, behind) => match find_items(sig, behind) {
-            Found::All(sizes, between) => match find_items(sig, between) {
-                Found::All(bounds, next) => {
-                    let k = buffers::push(buf, at, b"[");
-                    let end = push_dims(buf, k, sig, wide(rank), sizes, bounds);
-                    Rendering::Done(end, next)
-                }
-                Found::Lost(next) => Rendering::Failed(next),
-            },
-            Found::Lost(next) => Rendering::Failed(next),
-        },
-        Uint::NoNumber(next) => Rendering::Failed(next),
-    }
+    let (rank, behind) = numbers::read_uint(sig, pos)?;
+    let (sizes, between) = find_items(sig, behind)?;
+    let (bounds, next) = find_items(sig, between)?;
+    let k = buffers::push(buf, at, b"[");
+    Ok((push_dims(buf, k, sig, wide(rank), sizes, bounds), next))
 }
 
-// The tag at a position.
-fn read_tag(sig: &[u8], at: usize) -> Tag
+// The tag at a position, or the position after the bytes of a number that is broken off.
+fn read_tag(sig: &[u8], at: usize) -> Result<Tag, usize>
     requires { at < length sig.now }
     ensures { Tags sig.now at result }
 {
-    let tag = sig[at];
-    if tag == 0x1D {
-        return Tag::Vector;
-    }
-    if tag != 0x1F {
-        if tag != 0x20 {
-            return Tag::Other;
+    match sig[at] {
+        0x1D => Ok(Tag::Vector),
+        0x1F | 0x20 => {
+            let (_, next) = numbers::read_uint(sig, at + 1)?;
+            Ok(Tag::Modifier(next))
         }
-    }
-    match numbers::read_uint(sig, at + 1) {
-        Uint::Number(_, next) => Tag::Modifier(next),
-        Uint::NoNumber(next) => Tag::Torn(next),
+        _ => Ok(Tag::Other),
     }
 }
 
 // Pass a run of tags that keep the level.
-pub fn skip_run(sig: &[u8], pos: usize) -> Run
+pub fn skip_run(sig: &[u8], pos: usize) -> Result<(usize, usize), usize>
     ensures { Skips sig.now pos result }
 {
     let mut p = pos;
     let mut count = 0;
     while p < sig.len() {
-        match read_tag(sig, p) {
+        match read_tag(sig, p)? {
             Tag::Vector => {
                 count += 1;
                 p += 1;
             }
-            Tag::Modifier(next) => {
-                p = next;
-            }
-            Tag::Torn(next) => {
-                return Run::Broken(next);
-            }
-            Tag::Other => {
-                return Run::Over(count, p);
-            }
+            Tag::Modifier(next) => p = next,
+            Tag::Other => return Ok((count, p)),
         }
     }
-    Run::Over(count, p)
+    Ok((count, p))
 }
 
 // Append so many pairs of brackets. There may be far more than the buffer holds, past whose end nothing is added.
@@ -308,13 +248,11 @@ pub fn push_brackets(buf: &mut [u8], at: usize, count: usize) -> usize
     ensures { Wrote buf.old at (brackets count) buf.new result }
 {
     let mut k = at;
-    let mut i = 0;
-    while i < count {
+    for _ in 0..count {
         if buf.len() < k {
             return buf.len() + 1;
         }
         k = buffers::push(buf, k, b"[]");
-        i += 1;
     }
     buffers::push(buf, k, b"")
 }

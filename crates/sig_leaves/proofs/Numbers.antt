@@ -10,23 +10,22 @@ use borrow.Author.Tests.{eq-eqb, ne_eqb, lt-ltb, le-ltb}
 use lib.Dec.{ltb}
 use lib.ListN.{length, get_or}
 use Rattle.numbers.specs.Reading.{Res, Reader, some_at, none_at, after, chain, give, ◌>>=◌}
-use Rattle.numbers.specs.Compressed.{uint, uint_says}
-use Rattle.numbers.specs.declared.Uint.{Uint}
-use Rattle.numbers.specs.declared.Uint.TheVariants.{Number, NoNumber}
+use Rattle.numbers.specs.Compressed.{Uint, uint, uint_says}
 use Rattle.buffers.specs.Texts.{Text, q}
 use Rattle.record.specs.Types.{unless, counted, method_start, arguments, instance}
 use Rattle.sig_reader.specs.Numbers.{next_number}
 use Rattle.sig_reader.proofs.Numbers.{after_none}
 use Rattle.sig_leaves.specs.Leaves.{bounded, up_to, argument_count}
+use Rattle.std.specs.Prelude.{Ok, Err}
 
 module _ (most : ℕ) {u : Uint} where
-  pub bounded-none : {next : ℕ} → u ≡ NoNumber next → none_at next ≡ bounded most u
+  pub bounded-none : {next : ℕ} → u ≡ Err next → none_at next ≡ bounded most u
   bounded-none e = rw e
 
-  pub bounded-over : {n next : ℕ} → u ≡ Number n next → most < n → none_at next ≡ bounded most u
+  pub bounded-over : {n next : ℕ} → u ≡ Ok (n, next) → most < n → none_at next ≡ bounded most u
   bounded-over {n} e h = rw (e, lt-ltb most n h)
 
-  pub bounded-some : {n next : ℕ} → u ≡ Number n next → n ≤ most → some_at n next ≡ bounded most u
+  pub bounded-some : {n next : ℕ} → u ≡ Ok (n, next) → n ≤ most → some_at n next ≡ bounded most u
   bounded-some {n} e h = rw (e, le-ltb most n h)
 
 -- An answer that is refused above a bound, and the reading that does so.
@@ -36,8 +35,8 @@ module _ (most : ℕ) (s : List ℕ) where
   bound-is false n next = refl
 
   bounded-is : (p : Reader ℕ) (at : ℕ) (u : Uint) → uint_says u ≡ p s at → bounded most u ≡ (p >>= (λ n. unless (ltb most n) (give n))) s at
-  bounded-is p at (Number n next) e = rw (← e) (bound-is (ltb most n) n next ∙ after_none _)
-  bounded-is p at (NoNumber next) e = rw (← e)
+  bounded-is p at (Ok (n, next)) e = rw (← e) (bound-is (ltb most n) n next ∙ after_none _)
+  bounded-is p at (Err next) e = rw (← e)
 
 pub up-to-is : (most : ℕ) (s : List ℕ) (at : ℕ) (u : Uint) → uint_says u ≡ uint s at → bounded most u ≡ up_to most s at
 unfolding up_to

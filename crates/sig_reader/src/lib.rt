@@ -1,6 +1,6 @@
 // The signature reader: a struct that holds a lent part of the blob heap and a position in it, where the Rust moves its `Bytes` on. It
-// goes by value, so what has read on is a reader made anew. The functions over it are few, since each is proved by hand; those named
-// `read_` have plain parameters, and whoever calls them has no reader of their own.
+// goes by value, so what has read on is a reader made anew. The functions named `read_` have plain parameters: whoever calls them has
+// no reader of their own. (Functions and not methods: what docs/ names may not change its name.)
 
 #![tactic(auto)]
 
@@ -38,13 +38,12 @@ pub fn number<'a>(r: SigReader<'a>) -> Uint
 }
 
 // The number after the one at the reader's position.
+#[tactic(auto, using(crate::proofs::Numbers::after_none), unfolding(crate::specs::Numbers::next_number))]
 pub fn next_number<'a>(r: SigReader<'a>) -> Uint
     ensures { uint_says result ≡ next_number r.entry.sig.now r.entry.pos }
 {
-    match number(r) {
-        Uint::Number(_, next) => number(moved(r, next)),
-        Uint::NoNumber(next) => Uint::NoNumber(next),
-    }
+    let (_, next) = number(r)?;
+    number(moved(r, next))
 }
 
 // The compressed number at a position of a signature.

@@ -12,23 +12,23 @@ ghost use Rattle.record.specs.Readings.{known};
 ghost use Rattle.record.specs.Types.{simple, type_full_name, parameters, around, class_type, generic, fn_ptr, array, type};
 ghost use Rattle.rows.specs.Layout.{Laid, view_in};
 ghost use Rattle.rendering.specs.Rendered.{Rendered};
-ghost use Rattle.signatures.specs.Environment.{env_in, somebody, key_of, owner_at, env_of};
+ghost use Rattle.signatures.specs.Environment.{env_in, env_of};
 ghost use Rattle.signatures.specs.Parts.{before, behind, owner_by};
 ghost use Rattle.frames.specs.Stack.{Other};
 ghost use Rattle.shapes.specs.Runs.{Plain};
 ghost use Rattle.sig_leaves.specs.Leaves.{generics_of};
 
-use buffers::Place;
 use classes::TypeDefRow;
-use frames::{Ascent, Descent};
-use numbers::Uint;
+use frames::Ascent;
 use rendering::Rendering;
-use shapes::Run;
-use sig_leaves::{Blob, Owner};
+use sig_leaves::Owner;
 
-// The two owners, lent as four numbers: an owner by value is copied for each call, which takes 64 bytes more
-// of stack for a nesting.
-pub type Owners = [usize; 4];
+// The two owners, which are lent: by value they are copied for each call, which takes 64 bytes more of stack for a nesting.
+#[derive(Clone, Copy, Debug, PartialEq, Eq)]
+pub struct Owners {
+    pub class: Owner,
+    pub method: Owner,
+}
 
 // Frames for generic types inside of one another: first a few, which suffice nearly always; where they are all in use, many at once, so
 // that each takes few bytes of stack.
@@ -54,7 +54,7 @@ pub fn parse_sig_type(
     ensures { let e = env_in tables.now layout.now strings.now blob.now class method in
         Rendered (type e left sig.now pos) buf.old at buf.new result }
 {
-    let owners = owners_of(class, method);
+    let owners = Owners { class, method };
     sig_type(
         buf, at, tables, strings, blob, layout, &owners, sig, pos, left,
     )
@@ -72,56 +72,13 @@ pub fn get_type_fullname(
     method: Owner,
     index: u32,
     left: usize,
-) -> Place
+) -> Option<usize>
     requires { Laid tables.now layout.now }
     ensures { let e = env_in tables.now layout.now strings.now blob.now class method in
         Said buf.old at buf.new (type_full_name e (type e left) index).got (place_says result) }
 {
-    let owners = owners_of(class, method);
+    let owners = Owners { class, method };
     type_name(buf, at, tables, strings, blob, layout, &owners, index, left)
-}
-
-// Whether an owner is somebody: 1, or 0.
-fn is_somebody(owner: Owner) -> usize
-    ensures { result ≡ somebody owner }
-{
-    match owner {
-        Owner::Of(_) => 1,
-        Owner::Nobody => 0,
-    }
-}
-
-// Its Owner column, or 0 for nobody.
-fn key_of(owner: Owner) -> usize
-    ensures { result ≡ key_of owner }
-{
-    match owner {
-        Owner::Of(key) => key,
-        Owner::Nobody => 0,
-    }
-}
-
-// The numbers of both owners.
-pub fn owners_of(class: Owner, method: Owner) -> Owners
-    ensures { (owner_at result 0 ≡ class) × (owner_at result 2 ≡ method) }
-{
-    [
-        is_somebody(class),
-        key_of(class),
-        is_somebody(method),
-        key_of(method),
-    ]
-}
-
-// The owner whose two numbers stand at a place: the class at 0, the method at 2.
-pub fn owner_at(owners: &Owners, i: usize) -> Owner
-    requires { i < 3 }
-    ensures { result ≡ owner_at owners.now i }
-{
-    if owners[i] == 0 {
-        return Owner::Nobody;
-    }
-    Owner::Of(owners[i + 1])
 }
 
 // A separator before all but number 0.
@@ -134,7 +91,7 @@ fn push_sep(buf: &mut [u8], at: usize, i: usize, text: &[u8]) -> usize
     buffers::push(buf, at, text)
 }
 
-// The type at a position, by the owners' numbers. Tags that keep the level and add no text before the type are passed by a loop.
+// The type at a position, by the owners. Tags that keep the level and add no text before the type are passed by a loop.
 #[cycle(sig)]
 fn sig_type(
     buf: &mut [u8],
@@ -153,25 +110,16 @@ fn sig_type(
         Rendered (type e left sig.now pos) buf.old at buf.new result }
 {
     if sig.len() <= pos {
-        return Rendering::Failed(pos);
+        return Err(pos);
     }
     if left == 0 {
-        return Rendering::Failed(pos + 1);
+        return Err(pos + 1);
     }
-    match shapes::skip_run(sig, pos) {
-        Run::Over(count, plain) => {
-            match sig_plain(
-                buf, at, tables, strings, blob, layout, owners, sig, plain, left,
-            ) {
-                Rendering::Done(end, next) => Rendering::Done(
-                    shapes::push_brackets(buf, end, count),
-                    next,
-                ),
-                Rendering::Failed(next) => Rendering::Failed(next),
-            }
-        }
-        Run::Broken(next) => Rendering::Failed(next),
-    }
+    let (count, plain) = shapes::skip_run(sig, pos)?;
+    let (end, next) = sig_plain(
+        buf, at, tables, strings, blob, layout, owners, sig, plain, left,
+    )?;
+    Ok((shapes::push_brackets(buf, end, count), next))
 }
 
 // The type behind such a run. 0x15 keeps the level too.
@@ -194,7 +142,7 @@ fn sig_plain(
         Rendered (type e left sig.now pos) buf.old at buf.new result }
 {
     if sig.len() <= pos {
-        return Rendering::Failed(pos);
+        return Err(pos);
     }
     if sig[pos] == 0x15 {
         return sig_few(
@@ -310,37 +258,23 @@ fn sig_level(
     let mut p = pos;
     let mut n = 0;
     while p < sig.len() {
-        match frames::descend(sig, p, slots, n) {
-            Descent::At(to, used, full, _) => {
-                match sig_inner(
-                    buf, k, tables, strings, blob, layout, owners, sig, to, left, full,
-                ) {
-                    Rendering::Done(end, next) => {
-                        match frames::ascend(buf, end, sig, next, slots, used) {
-                            Ascent::More(place, first, still) => {
-                                k = place;
-                                p = first;
-                                n = still;
-                            }
-                            Ascent::Over(place, last) => {
-                                return Rendering::Done(place, last);
-                            }
-                            Ascent::Broken(last) => {
-                                return Rendering::Failed(last);
-                            }
-                        }
-                    }
-                    Rendering::Failed(next) => {
-                        return Rendering::Failed(next);
-                    }
-                }
+        let to = match frames::descend(sig, p, slots, n) {
+            Ok(to) => to,
+            Err((next, _)) => return Err(next),
+        };
+        let (end, next) = sig_inner(
+            buf, k, tables, strings, blob, layout, owners, sig, to.at, left, to.full,
+        )?;
+        match frames::ascend(buf, end, sig, next, slots, to.used)? {
+            Ascent::More(place, first, still) => {
+                k = place;
+                p = first;
+                n = still;
             }
-            Descent::Broken(next, _) => {
-                return Rendering::Failed(next);
-            }
+            Ascent::Over(place, last) => return Ok((place, last)),
         }
     }
-    Rendering::Failed(p)
+    Err(p)
 }
 
 // Any other type, by its tag (II.23.1.16).
@@ -384,8 +318,8 @@ fn sig_simple(buf: &mut [u8], at: usize, pos: usize, tag: u8) -> Rendering
     ensures { Rendered (known (simple tag) [] pos) buf.old at buf.new result }
 {
     match sig_leaves::push_simple(buf, at, tag) {
-        Place::Next(end) => Rendering::Done(end, pos),
-        Place::Missing => Rendering::Failed(pos),
+        Some(end) => Ok((end, pos)),
+        None => Err(pos),
     }
 }
 
@@ -406,31 +340,13 @@ fn sig_var(
         (generic
         (name_at
         (generics_of (view_in tables.now layout.now strings.now blob)
-        (owner_by tag (owner_at owners.now 0) (owner_at owners.now 2)))) sig.now pos) buf.old at
+        (owner_by tag owners.now.class owners.now.method))) sig.now pos) buf.old at
         buf.new result }
 {
     if tag == 0x13 {
-        return sig_leaves::sig_generic(
-            buf,
-            at,
-            tables,
-            strings,
-            layout,
-            owner_at(owners, 0),
-            sig,
-            pos,
-        );
+        return sig_leaves::sig_generic(buf, at, tables, strings, layout, owners.class, sig, pos);
     }
-    sig_leaves::sig_generic(
-        buf,
-        at,
-        tables,
-        strings,
-        layout,
-        owner_at(owners, 2),
-        sig,
-        pos,
-    )
+    sig_leaves::sig_generic(buf, at, tables, strings, layout, owners.method, sig, pos)
 }
 
 // What stands before the type behind 0x0F or 0x10.
@@ -473,12 +389,10 @@ fn sig_around(
         Rendered (around (before tag) (behind tag) (type e left) sig.now pos) buf.old at buf.new result }
 {
     let first = push_before(buf, at, tag);
-    match sig_type(
+    let (end, next) = sig_type(
         buf, first, tables, strings, blob, layout, owners, sig, pos, left,
-    ) {
-        Rendering::Done(end, next) => Rendering::Done(push_behind(buf, end, tag), next),
-        Rendering::Failed(next) => Rendering::Failed(next),
-    }
+    )?;
+    Ok((push_behind(buf, end, tag), next))
 }
 
 // 0x11, 0x12: the name behind an index.
@@ -499,18 +413,14 @@ fn sig_class(
     ensures { let e = env_of tables.now layout.now strings.now blob.now owners.now in
         Rendered (class_type e (type e left) sig.now pos) buf.old at buf.new result }
 {
-    match numbers::read_uint(sig, pos) {
-        Uint::Number(index, next) => {
-            match type_name(buf, at, tables, strings, blob, layout, owners, index, left) {
-                Place::Next(end) => Rendering::Done(end, next),
-                Place::Missing => Rendering::Failed(next),
-            }
-        }
-        Uint::NoNumber(next) => Rendering::Failed(next),
+    let (index, next) = numbers::read_uint(sig, pos)?;
+    match type_name(buf, at, tables, strings, blob, layout, owners, index, left) {
+        Some(end) => Ok((end, next)),
+        None => Err(next),
     }
 }
 
-// The name behind an index, by the owners' numbers. Its two low bits say which table.
+// The name behind an index. Its two low bits say which table.
 #[cycle(sig)]
 fn type_name(
     buf: &mut [u8],
@@ -522,7 +432,7 @@ fn type_name(
     owners: &Owners,
     index: u32,
     left: usize,
-) -> Place
+) -> Option<usize>
     requires { Laid tables.now layout.now }
     ensures { let e = env_of tables.now layout.now strings.now blob.now owners.now in
         Said buf.old at buf.new (type_full_name e (type e left) index).got (place_says result) }
@@ -531,19 +441,17 @@ fn type_name(
     match index % 4 {
         0 => names::push_class_name(buf, at, tables, strings, layout, TypeDefRow(row)),
         1 => names::push_ref_name(buf, at, tables, strings, layout, row),
-        2 => match sig_leaves::spec_blob(tables, blob, layout, row) {
-            Blob::At { start, len } => {
-                let spec = numbers::cut(blob, start, len);
-                match sig_type(
-                    buf, at, tables, strings, blob, layout, owners, spec, 0, left,
-                ) {
-                    Rendering::Done(end, _) => Place::Next(end),
-                    Rendering::Failed(_) => Place::Missing,
-                }
+        2 => {
+            let place = sig_leaves::spec_blob(tables, blob, layout, row)?;
+            let spec = numbers::cut(blob, place.start, place.len);
+            match sig_type(
+                buf, at, tables, strings, blob, layout, owners, spec, 0, left,
+            ) {
+                Ok((end, _)) => Some(end),
+                Err(_) => None,
             }
-            Blob::Missing => Place::Missing,
-        },
-        _ => Place::Missing,
+        }
+        _ => None,
     }
 }
 
@@ -565,12 +473,10 @@ fn sig_array(
     ensures { let e = env_of tables.now layout.now strings.now blob.now owners.now in
         Rendered (array (type e left) sig.now pos) buf.old at buf.new result }
 {
-    match sig_type(
+    let (end, next) = sig_type(
         buf, at, tables, strings, blob, layout, owners, sig, pos, left,
-    ) {
-        Rendering::Done(end, next) => shapes::push_shape(buf, end, sig, next),
-        Rendering::Failed(next) => Rendering::Failed(next),
-    }
+    )?;
+    shapes::push_shape(buf, end, sig, next)
 }
 
 // 0x1B: a function pointer, whose signature is a method's (`parse_method_def_signature`).
@@ -591,29 +497,16 @@ fn parse_method_def_signature(
     ensures { let e = env_of tables.now layout.now strings.now blob.now owners.now in
         Rendered (fn_ptr (type e left) sig.now pos) buf.old at buf.new result }
 {
-    match sig_leaves::read_method_start(sig, pos) {
-        Uint::Number(count, first) => {
-            let open = buffers::push(buf, at, b"FnPtr<");
-            match sig_type(
-                buf, open, tables, strings, blob, layout, owners, sig, first, left,
-            ) {
-                Rendering::Done(end, after) => {
-                    let inner = buffers::push(buf, end, b"(");
-                    match sig_parameters(
-                        buf, inner, tables, strings, blob, layout, owners, sig, after, left, count,
-                    ) {
-                        Rendering::Done(close, next) => Rendering::Done(
-                            buffers::push(buf, close, b")>"),
-                            next,
-                        ),
-                        Rendering::Failed(next) => Rendering::Failed(next),
-                    }
-                }
-                Rendering::Failed(next) => Rendering::Failed(next),
-            }
-        }
-        Uint::NoNumber(next) => Rendering::Failed(next),
-    }
+    let (count, first) = sig_leaves::read_method_start(sig, pos)?;
+    let open = buffers::push(buf, at, b"FnPtr<");
+    let (end, after) = sig_type(
+        buf, open, tables, strings, blob, layout, owners, sig, first, left,
+    )?;
+    let inner = buffers::push(buf, end, b"(");
+    let (close, next) = sig_parameters(
+        buf, inner, tables, strings, blob, layout, owners, sig, after, left, count,
+    )?;
+    Ok((buffers::push(buf, close, b")>"), next))
 }
 
 // So many parameters. One that fails is taken back with its separator, and the reading goes on after the bytes it took.
@@ -636,24 +529,19 @@ fn sig_parameters(
     ensures { let e = env_of tables.now layout.now strings.now blob.now owners.now in
         Rendered (parameters count 0 (type e left) sig.now pos) buf.old at buf.new result }
 {
-    let n = count as usize;
     let mut p = pos;
     let mut k = at;
-    let mut i = 0;
-    while i < n {
+    for i in 0..count as usize {
         let first = push_sep(buf, k, i, b", ");
-        i += 1;
         match sig_type(
             buf, first, tables, strings, blob, layout, owners, sig, p, left,
         ) {
-            Rendering::Done(end, next) => {
+            Ok((end, next)) => {
                 k = end;
                 p = next;
             }
-            Rendering::Failed(after) => {
-                p = after;
-            }
+            Err(after) => p = after,
         }
     }
-    Rendering::Done(k, p)
+    Ok((k, p))
 }

@@ -3,45 +3,32 @@
 #![tactic(auto)]
 
 ghost use Rattle.std.specs.Prelude.{◌≡◌, ℕ, ◌+◌, ◌-◌};
-ghost use Rattle.buffers.specs.Replies.{reply_says};
-ghost use Rattle.record.specs.Allowance.{cost};
+ghost use Rattle.buffers.specs.Replies.{number, reply_says};
+ghost use Rattle.record.specs.Allowance.{is_paid, cost};
 
-use buffers::Reply;
-
-// What counting comes to: so many steps are left, or they do not suffice.
-#[derive(Drop)]
-pub enum Steps {
-    Left(u64),
-    Spent,
-}
+use buffers::{Refusal, Reply};
 
 // The reply of a call, and what is left of its allowance.
-#[derive(Drop)]
+#[derive(Clone, Copy, Debug, PartialEq, Eq)]
 pub struct Charged {
     pub reply: Reply,
     pub left: u64,
 }
 
-// The refusals that are paid for.
-const NO_NAME: u8 = 5;
-
-const BUFFER_TOO_SMALL: u8 = 6;
+// Whether a refusal is paid for: a name that is missing, and one that is longer than the lent buffer.
+fn is_paid(why: Refusal) -> bool
+    ensures { result ≡ is_paid (number why) }
+{
+    matches!(why, Refusal::NoName(_) | Refusal::BufferTooSmall)
+}
 
 // What is left after a reply that is not 11, by what was left before it was counted and after. A refusal that is not paid for takes nothing.
+#[tactic(auto, unfolding(record::specs::Allowance::cost))]
 pub fn left_after(reply: Reply, before: u64, after: u64) -> u64
     ensures { (n : ℕ) → n + after ≡ before → result ≡ before - cost n (reply_says reply) }
 {
     match reply {
-        Reply::Is(_) => after,
-        Reply::No(why) => {
-            let number = buffers::refusal_number(why);
-            if number == NO_NAME {
-                return after;
-            }
-            if number == BUFFER_TOO_SMALL {
-                return after;
-            }
-            before
-        }
+        Err(why) if !is_paid(why) => before,
+        _ => after,
     }
 }

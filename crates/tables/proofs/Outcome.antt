@@ -5,21 +5,20 @@ use Prim.Native.Nat.{ℕ}
 use lib.ListN.{length}
 use Rattle.buffers.proofs.Replies.{reply-same}
 use Rattle.buffers.specs.declared.Refusal.{Refusal}
-use Rattle.header.specs.Stream.{opened}
+use Rattle.header.specs.Stream.{opened, Opening}
 use Rattle.header.specs.declared.Options.{Options}
-use Rattle.header.specs.declared.Header.{Header}
-use Rattle.header.specs.declared.Opened.TheVariants.{Refused, Ready}
+use Rattle.std.specs.Prelude.{Err, Ok}
 use Rattle.layouts.specs.Columns.{width_in, row_size}
 use Rattle.layouts.specs.declared.IndexSizes.{IndexSizes}
 use Rattle.tables.specs.Extents.{Walked, walk_says, walk_by, walk_of, refused_walk, walked, row_size_in}
 use Rattle.tables.specs.declared.Extents.{Extents}
 
-module _ (o : Options) (s : List ℕ) (h : Header) where
-  pub is-refused : (why : Refusal) → h ≡ opened o s → h.answer ≡ Refused why → refused_walk why ≡ walk_of o s
+module _ (o : Options) (s : List ℕ) (h : Opening) where
+  pub is-refused : (why : Refusal) → h ≡ opened o s → h.answer ≡ Err why → refused_walk why ≡ walk_of o s
   unfolding walk_by
   is-refused why e f = rw (← e, f)
 
-  pub is-walked : h ≡ opened o s → h.answer ≡ Ready → walked (row_size_in o h) h.counts (length s) h.first ≡ walk_of o s
+  pub is-walked : h ≡ opened o s → h.answer ≡ (Ok tt) → walked (row_size_in o h) h.counts (length s) h.first ≡ walk_of o s
   unfolding walk_by
   is-walked e f = rw (← e, f)
 

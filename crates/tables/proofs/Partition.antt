@@ -11,11 +11,9 @@ use borrow.Author.Tests.{lt-ltb, le-leb, lt-leb}
 use lib.ListN.{length, get_or}
 use Rattle.numbers.proofs.Lists.{table_at}
 use Rattle.buffers.specs.Replies.{value}
-use Rattle.header.specs.Stream.{opened}
+use Rattle.header.specs.Stream.{opened, Opening, Opened}
 use Rattle.header.specs.declared.Options.{Options}
-use Rattle.header.specs.declared.Header.{Header}
-use Rattle.header.specs.declared.Opened.{Opened}
-use Rattle.header.specs.declared.Opened.TheVariants.{Refused, Ready}
+use Rattle.std.specs.Prelude.{Err, Ok}
 use Rattle.header.proofs.Cases.{ready-first, first-most}
 use Rattle.layouts.specs.Columns.{width_in, row_size}
 use Rattle.layouts.specs.declared.IndexSizes.{IndexSizes}
@@ -113,19 +111,19 @@ module _ (size : ℕ → ℕ) (counts : List ℕ) (n first : ℕ) (pos : (k : �
           absurd (omega (arith, zero-mul (size m)))
 
 -- A reply that names a kind is of a stream that opens, and names where its walk is left.
-left_by : (w : IndexSizes) (h : Header) (n named : ℕ) (a : Opened) → h.answer ≡ a → (answered a w h n).stop ≡ value named
-    → (h.answer ≡ Ready) × (stop_kind (row_size (width_in w)) h.counts n h.first ≡ named)
+left_by : (w : IndexSizes) (h : Opening) (n named : ℕ) (a : Opened) → h.answer ≡ a → (answered a w h n).stop ≡ value named
+    → (h.answer ≡ (Ok tt)) × (stop_kind (row_size (width_in w)) h.counts n h.first ≡ named)
 unfolding walked
-left_by w h n named (Refused why) e r = let z : ◌≡◌ {A = ℕ} 0 1 = cc in absurd (omega arith)
-left_by w h n named Ready e r = (e, cc)
+left_by w h n named (Err why) e r = let z : ◌≡◌ {A = ℕ} 0 1 = cc in absurd (omega arith)
+left_by w h n named (Ok tt) e r = (e, cc)
 
 left : (o : Options) (s : List ℕ) (named : ℕ) → (walk_of o s).stop ≡ value named
-    → ((opened o s).answer ≡ Ready) × (stop_kind (row_size_in o (opened o s)) (opened o s).counts (length s) (opened o s).first ≡ named)
+    → ((opened o s).answer ≡ (Ok tt)) × (stop_kind (row_size_in o (opened o s)) (opened o s).counts (length s) (opened o s).first ≡ named)
 unfolding walk_by
 left o s named r = left_by (sizes_in o (opened o s)) (opened o s) (length s) named (opened o s).answer refl r
 
 -- The same of a stream that opens.
-module _ (o : Options) (s : List ℕ) (ready : (opened o s).answer ≡ Ready) where
+module _ (o : Options) (s : List ℕ) (ready : (opened o s).answer ≡ (Ok tt)) where
   abbrev sizes : ℕ → ℕ
   sizes = row_size_in o (opened o s)
 

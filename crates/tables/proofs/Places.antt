@@ -10,11 +10,9 @@ use lib.Dec.{leb}
 use lib.ListN.{length, get_or, replicate, length-replicate, get_or-replicate, get_or-eq_default}
 use Rattle.numbers.specs.Lists.{tabulate}
 use Rattle.numbers.proofs.Lists.{table_at, tabulate-length}
-use Rattle.header.specs.Stream.{opened}
+use Rattle.header.specs.Stream.{opened, Opening, Opened}
 use Rattle.header.specs.declared.Options.{Options}
-use Rattle.header.specs.declared.Header.{Header}
-use Rattle.header.specs.declared.Opened.{Opened}
-use Rattle.header.specs.declared.Opened.TheVariants.{Refused, Ready}
+use Rattle.std.specs.Prelude.{Err, Ok}
 use Rattle.header.proofs.Cases.{ready-first}
 use Rattle.layouts.specs.Columns.{width_in, row_size}
 use Rattle.layouts.specs.declared.IndexSizes.{IndexSizes}
@@ -118,22 +116,22 @@ module _ (size : ℕ → ℕ) (counts : List ℕ) (n first : ℕ) where
       go (no l) (no m) = omega arith
 
 -- A byte of a table: the stream is opened, and the byte lies there.
-pub record Found (o : Options) (h : Header) (n k p : ℕ) : Type 0 where
-  pub ready : h.answer ≡ Ready
+pub record Found (o : Options) (h : Opening) (n k p : ℕ) : Type 0 where
+  pub ready : h.answer ≡ (Ok tt)
   pub lies_at : Lies (row_size_in o h) h.counts n h.first k p
 
-found-by : (o : Options) (h : Header) (n : ℕ) (a : Opened) (k p : ℕ) → h.answer ≡ a
+found-by : (o : Options) (h : Opening) (n : ℕ) (a : Opened) (k p : ℕ) → h.answer ≡ a
     → (let r = answered a (sizes_in o h) h n in Inside (record { start = get_or r.starts k 0; size = get_or r.sizes k 0; rows = get_or r.rows k 0 }) p)
     → Found o h n k p
-found-by o h n (Refused why) k p e i = absurd (omega (arith, zero-mul 0, rw (zeros k) at i))
-found-by o h n Ready k p e i = record { ready = e; lies_at = lies (row_size_in o h) h.counts n h.first k p i }
+found-by o h n (Err why) k p e i = absurd (omega (arith, zero-mul 0, rw (zeros k) at i))
+found-by o h n (Ok tt) k p e i = record { ready = e; lies_at = lies (row_size_in o h) h.counts n h.first k p i }
 
-pub found : (o : Options) (h : Header) (n k p : ℕ) → Inside (extent o h n k) p → Found o h n k p
+pub found : (o : Options) (h : Opening) (n k p : ℕ) → Inside (extent o h n k) p → Found o h n k p
 unfolding extent_by walk_by
 found o h n k p i = found-by o h n h.answer k p refl i
 
 -- A table with rows in it: its row size is that of its columns, and its rows lie within the stream.
-pub record Stands (o : Options) (h : Header) (n k : ℕ) : Type 0 where
+pub record Stands (o : Options) (h : Opening) (n k : ℕ) : Type 0 where
   pub sized : (extent o h n k).size ≡ row_size_in o h k
   pub within : (extent o h n k).start + (extent o h n k).rows * (extent o h n k).size ≤ n
 
@@ -159,13 +157,13 @@ module _ (size : ℕ → ℕ) (counts : List ℕ) (n first : ℕ) where
       subst (λ (x : Extent). (x.size ≡ size k) × (x.start + x.rows * x.size ≤ n)) (sym e)
       (stands-seen (leb k (stop_kind size counts n first)) (is_table size counts n first k) k z (subst (λ (x : Extent). 0 < x.rows) e h))
 
-stands_by : (w : IndexSizes) (h : Header) (n : ℕ) (a : Opened) (k : ℕ) → k < 64 → 0 < row_size (width_in w) k → 0 < get_or (answered a w h n).rows k 0
+stands_by : (w : IndexSizes) (h : Opening) (n : ℕ) (a : Opened) (k : ℕ) → k < 64 → 0 < row_size (width_in w) k → 0 < get_or (answered a w h n).rows k 0
     → (get_or (answered a w h n).sizes k 0 ≡ row_size (width_in w) k)
     × (get_or (answered a w h n).starts k 0 + get_or (answered a w h n).rows k 0 * get_or (answered a w h n).sizes k 0 ≤ n)
-stands_by w h n (Refused why) k l z r = absurd (omega (arith, zeros k))
-stands_by w h n Ready k l z r = stands-table (row_size (width_in w)) h.counts n h.first k l z r
+stands_by w h n (Err why) k l z r = absurd (omega (arith, zeros k))
+stands_by w h n (Ok tt) k l z r = stands-table (row_size (width_in w)) h.counts n h.first k l z r
 
-pub stands : (o : Options) (h : Header) (n k : ℕ) → k < 45 → 0 < (extent o h n k).rows → Stands o h n k
+pub stands : (o : Options) (h : Opening) (n k : ℕ) → k < 45 → 0 < (extent o h n k).rows → Stands o h n k
 unfolding extent_by walk_by
 stands o h n k l r =
     let s = stands_by (sizes_in o h) h n h.answer k (omega arith) (size-pos (counted o h) h.heap h.counts k l) r in
@@ -179,15 +177,15 @@ module _ (size : ℕ → ℕ) (counts : List ℕ) (n first : ℕ) where
   few-seen true false k = zero-le
   few-seen true true k = omega arith
 
-few-by : (w : IndexSizes) (h : Header) (n : ℕ) (a : Opened) (k : ℕ) → k < 64 → get_or (answered a w h n).rows k 0 ≤ get_or h.counts k 0
+few-by : (w : IndexSizes) (h : Opening) (n : ℕ) (a : Opened) (k : ℕ) → k < 64 → get_or (answered a w h n).rows k 0 ≤ get_or h.counts k 0
 unfolding walked if_reached
-few-by w h n (Refused why) k l = rw (zeros k) zero-le
-few-by w h n Ready k l =
+few-by w h n (Err why) k l = rw (zeros k) zero-le
+few-by w h n (Ok tt) k l =
     let size = row_size (width_in w) in
     rw (table_at (if_reached size h.counts n h.first (whole_rows size h.counts n h.first)) 0 64 k l)
     (few-seen size h.counts n h.first (leb k (stop_kind size h.counts n h.first)) (is_table size h.counts n h.first k) k)
 
-pub few-rows : (o : Options) (h : Header) (n k : ℕ) → k < 64 → (extent o h n k).rows ≤ get_or h.counts k 0
+pub few-rows : (o : Options) (h : Opening) (n k : ℕ) → k < 64 → (extent o h n k).rows ≤ get_or h.counts k 0
 unfolding extent_by walk_by
 few-rows o h n k l = few-by (sizes_in o h) h n h.answer k l
 

@@ -1,16 +1,15 @@
--- The loop of `walk_tables`: its invariant, and each way through its body, over plain variables. Assumes nothing.
+-- The loop of `walk_sized`: its invariant, and each way through its body, over plain variables. Assumes nothing.
 use mathlib.Core.Path.{◌≡◌, refl, ◌∙◌}
 use mathlib.Core.Bool.{true, false, cond}
 use mathlib.Core.List.{List}
 use mathlib.Core.Logic.{dite}
-use Prim.Native.Nat.{ℕ, suc, ◌+◌, ◌*◌, ◌-◌, ◌/◌, ◌^◌, ◌≤◌, ◌<◌, min}
-use native.Mathlib.Nat.{not-suc-le-zero, lt_of_le_of_lt, mul-le-mul, le-div_iff_mul-le, div-lt_iff_lt-mul}
+use Prim.Native.Nat.{ℕ, suc, ◌+◌, ◌*◌, ◌-◌, ◌/◌, ◌≤◌, ◌<◌, min}
+use native.Mathlib.Nat.{not-suc-le-zero, le-div_iff_mul-le, div-lt_iff_lt-mul}
 use native.Mathlib.Numerals.{add-one}
 use native.Mathlib.Omega.{arith}
 use native.Mathlib.Decide.{dec_lt}
 use borrow.Author.Count.{below_more}
 use borrow.Author.Tests.{lt-ltb, le-ltb, le-leb, lt-leb}
-use lib.Dec.{lit<}
 use lib.ListN.{length, get_or, set, length-set, replicate, get_or-replicate}
 use lib.Seq.{get_or-set_same, get_or-set_other}
 use Rattle.numbers.specs.Lists.{tabulate}
@@ -18,27 +17,13 @@ use Rattle.numbers.proofs.Lists.{table_is}
 use Rattle.buffers.specs.Replies.{value}
 use Rattle.tables.specs.Extents.{Walked, start_of, is_table, passes, stop_from, stop_kind, whole_rows, if_reached, walked}
 
--- n rows of that size fit in the room, or not
-pub fits : (n size room : ℕ) → 0 < size → n ≤ room / size → n * size ≤ room
-fits n size room h k = (le-div_iff_mul-le h).0 k
+-- n rows of that size fit in the room, or not, by how many are whole.
+module _ {n size room whole : ℕ} (e : whole ≡ min n (room / size)) (some : 0 < size) where
+  pub fits : n ≤ whole → n * size ≤ room
+  fits h = (le-div_iff_mul-le some).0 (omega arith)
 
-pub fits_not : (n size room : ℕ) → 0 < size → room / size < n → room < n * size
-fits_not n size room h k = (div-lt_iff_lt-mul h).0 k
-
--- The code of `whole_rows` has a, b and d for n and twice size: their product is a number of 64 bits, and where it is no more than the
--- room, all n rows are whole.
-pub product-fits : (a b : ℕ) → a < 2 ^ 32 → b < 2 ^ 32 → a * b < 2 ^ 64
-product-fits a b h k = lt_of_le_of_lt (mul-le-mul {n₂ = 4294967295} {m₂ = 4294967295} (omega arith) (omega arith)) (lit< tt)
-
-module _ (room size n a b : ℕ) (ea : a ≡ n) (eb : b ≡ size) (some : 0 < size) where
-  pub all_fit : a * b ≤ room → n ≡ min n (room / size)
-  all_fit h = omega (arith, (le-div_iff_mul-le some).1 (rw (ea, eb) at h))
-
-  pub few-fit : (d : ℕ) → d ≡ size → room < a * b → room / d < n
-  few-fit d e h = rw e ((div-lt_iff_lt-mul some).1 (rw (ea, eb) at h))
-
-  pub least-fit : (d : ℕ) → d ≡ size → room < a * b → room / d ≡ min n (room / size)
-  least-fit d e h = let k = few-fit size refl h in rw e (omega arith)
+  fits_not : whole < n → room < n * size
+  fits_not h = (div-lt_iff_lt-mul some).0 (omega arith)
 
 module _ (size : ℕ → ℕ) (counts : List ℕ) (n first : ℕ) where
   -- an array that holds g at each is_table kind below `kind`, and 0 elsewhere
@@ -161,8 +146,8 @@ module _ (size : ℕ → ℕ) (counts : List ℕ) (n first : ℕ) where
           final _ c m z (omega arith) (λ k u v. rw e (g k u v)),
         )
 
-    pub ended : 64 ≤ kind → ◌≡◌ {A = Walked} (record { stop = value kind; starts = starts; sizes = sizes; rows = rows }) (walked size counts n first)
-    ended h = left starts sizes rows kind i.starts-ok i.sizes-ok i.rows_ok (i.on ∙ stop-end kind h) (omega arith) (λ k u v. omega arith)
+    pub ended : {stop : ℕ} → stop ≡ 64 → 64 ≤ kind → ◌≡◌ {A = Walked} (record { stop = value stop; starts = starts; sizes = sizes; rows = rows }) (walked size counts n first)
+    ended {stop} e h = let q : stop ≡ kind = omega (arith, i.low) in rw q (left starts sizes rows kind i.starts-ok i.sizes-ok i.rows_ok (i.on ∙ stop-end kind h) (omega arith) (λ k u v. omega arith))
 
     module _ (h : kind < 64) where
       pub skipped : get_or counts kind 0 ≤ 0 → Walking starts sizes rows at (kind + 1)
@@ -195,19 +180,16 @@ module _ (size : ℕ → ℕ) (counts : List ℕ) (n first : ℕ) where
               → ◌≡◌ {A = Walked} (record { stop = value kind; starts = set starts kind at; sizes = set sizes kind bytes; rows = set rows kind whole }) (walked size counts n first)
           cut e =
               let t = table-yes kind some known in
-              let q : n - at < get_or counts kind 0 * bytes = fits_not _ _ _ pos (omega arith) in
+              let q : n - at < get_or counts kind 0 * bytes = fits_not ew pos e in
               let r : n < start_of size counts n first (kind + 1) = rw (place-next kind at i.place, ← es) (omega arith) in
               left _ _ _ (kind + 1) (stored _ _ _ _ i.starts-ok h t i.place) (stored _ _ _ _ i.sizes-ok h t es) (stored _ _ _ _ i.rows_ok h t whole_is)
               (i.on ∙ stop-here kind h (stops-cut kind some known r)) (omega arith) (λ k u v. omega arith)
-
-          pub room : get_or counts kind 0 ≤ whole → get_or counts kind 0 * bytes ≤ n - at
-          room e = fits _ _ _ pos (omega arith)
 
           pub taken : get_or counts kind 0 ≤ whole
               → Walking (set starts kind at) (set sizes kind bytes) (set rows kind whole) (at + get_or counts kind 0 * bytes) (kind + 1)
           taken e =
               let t = table-yes kind some known in
-              let q = room e in
+              let q : get_or counts kind 0 * bytes ≤ n - at = fits ew pos e in
               let r : at + get_or counts kind 0 * bytes ≡ start_of size counts n first (kind + 1) = rw (place-next kind at i.place, es) in
               record {
                 low = omega arith;

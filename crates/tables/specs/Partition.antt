@@ -4,7 +4,7 @@ use Rattle.std.specs.Prelude.{◌≡◌, Bool, true, false, List, [], ◌∷◌,
 use Rattle.buffers.specs.Replies.{value}
 use Rattle.header.specs.Stream.{base, opened, counts_end}
 use Rattle.header.specs.declared.Options.{Options}
-use Rattle.header.specs.declared.Opened.TheVariants.{Ready}
+use Rattle.std.specs.Prelude.{Ok}
 use Rattle.layouts.specs.Columns.{Column, Two, Four, String, Guid, Blob, TypeDef, Field, MethodDef, Param, Event, Property}
 use Rattle.layouts.specs.Columns.{ModuleRef, AssemblyRef, GenericParam, TypeDefOrRef, HasConstant, HasCustomAttribute}
 use Rattle.layouts.specs.Columns.{HasFieldMarshall, HasDeclSecurity, MemberRefParent, HasSemantics, MethodDefOrRef}
@@ -78,7 +78,7 @@ module _ (o : Options) (s : List ℕ) where
 
 -- "for every stream that is not refused", and all options: the walk's reply names a kind, and with the kind that it names all of this holds.
 pub record Partition : Type 0 where
-  pub names : (o : Options) (s : List ℕ) → (opened o s).answer ≡ Ready → (named : ℕ) × ((walk_of o s).stop ≡ value named)
+  pub names : (o : Options) (s : List ℕ) → (opened o s).answer ≡ (Ok tt) → (named : ℕ) × ((walk_of o s).stop ≡ value named)
   pub holds : (o : Options) (s : List ℕ) (named : ℕ) → (walk_of o s).stop ≡ value named → Partitioned o s named
 
 -- "indices that depend on row counts": the 22 into one or several tables.
@@ -130,7 +130,7 @@ one_table mask rows =
 
 -- A stream that opens in the base, in which the column has 4 bytes.
 abbrev pub Widens : List ℕ → Column → Type 0
-Widens s c = ((opened base s).answer ≡ Ready) × (width_of base s c ≡ 4)
+Widens s c = ((opened base s).answer ≡ (Ok tt)) × (width_of base s c ≡ 4)
 
 pub record FourBytes : Type 0 where
   -- "only HasCustomAttribute, MemberRefParent and CustomAttributeType can have 4 bytes": no other does under any limit of up to 15,000 rows;

@@ -7,30 +7,37 @@ ghost use Rattle.rows.specs.Layout.{Laid};
 
 use crate::pieces::expand;
 use buffers::{Reason, Refusal, Reply, refusal_number};
-use case_text::{after, first, read_decimal};
-use check::same;
-use header::{Opened, base_options};
-use rendering::Rendering;
+use case_text::{cut_at, read_decimal};
+use header::base_options;
+use replaying::{Block, Refused, is_answer};
 use rows::columns;
-use sig_leaves::Owner;
+use signatures::Owners;
 
 // The levels of a type that is in no other.
 const LEVELS: usize = 17;
 
-// The longest text that is asked for with buffers of every length.
+// The longest text that is asked for with buffers of every length, and so many bytes more than it or than a refusal.
 const SHORT: usize = 64;
 
-// Whose generic parameters are meant.
+const MORE: usize = 2;
+
+// Bytes for a signature, and for a text, which is the longest buffer that one is asked for with.
+const SIGNATURE: usize = 65_536;
+
+const ROOM: usize = 131_072;
+
+// A type: the streams of its block, its signature, and its generic parameters' owners.
 #[derive(Clone, Copy)]
-struct Owners {
-    class: Owner,
-    method: Owner,
+struct Asked<'a> {
+    block: Block<'a>,
+    sig: &'a [u8],
+    owners: Owners,
 }
 
-// What is expected beside the text: a refusal, or 0; the position after the type.
+// What is expected: the text or a refusal, and the position after the type.
 #[derive(Clone, Copy)]
-struct Expected {
-    refusal: usize,
+struct Expected<'a> {
+    text: Result<&'a [u8], Refused>,
     next: usize,
 }
 
@@ -41,265 +48,128 @@ struct Came {
     next: usize,
 }
 
-pub fn agrees(line: &[u8], tables: &[u8], strings: &[u8], blob: &[u8]) -> bool {
-    let word = first(line);
-    let rest = after(line, word.len());
-    if !same(word, b"owned") {
-        let nobody = Owners {
-            class: Owner::Nobody,
-            method: Owner::Nobody,
-        };
-        return type_agrees(rest, tables, strings, blob, nobody);
+pub fn agrees(block: Block<'_>, line: &[u8]) -> bool {
+    let (word, rest) = cut_at(line, b' ');
+    match word {
+        b"owned" => {
+            let (class, rest) = cut_at(rest, b' ');
+            let (method, rest) = cut_at(rest, b' ');
+            let owners = Owners {
+                class: Some(read_decimal(class)),
+                method: Some(read_decimal(method)),
+            };
+            type_agrees(block, owners, rest)
+        }
+        _ => {
+            let nobody = Owners {
+                class: None,
+                method: None,
+            };
+            type_agrees(block, nobody, rest)
+        }
     }
-    let class = first(rest);
-    let after_class = after(rest, class.len());
-    let method = first(after_class);
-    let owners = Owners {
-        class: Owner::Of(read_decimal(class)),
-        method: Owner::Of(read_decimal(method)),
+}
+
+fn type_agrees(block: Block<'_>, owners: Owners, text: &[u8]) -> bool {
+    let mut space = [0u8; SIGNATURE];
+    let (n, rest) = expand(text, b'=', &mut space);
+    let asked = Asked {
+        block,
+        sig: numbers::cut(&space, 0, n),
+        owners,
     };
-    type_agrees(
-        after(after_class, method.len()),
-        tables,
-        strings,
-        blob,
-        owners,
-    )
+    answer_agrees(asked, rest.get(2..).unwrap_or_default())
 }
 
-fn type_agrees(text: &[u8], tables: &[u8], strings: &[u8], blob: &[u8], owners: Owners) -> bool {
-    let mut space = [0u8; 65536];
-    let left = expand(text, b'=', &mut space);
-    let sig = numbers::cut(&space, 0, left.len);
-    answer_agrees(
-        after(after(text, left.at), 0),
-        sig,
-        tables,
-        strings,
-        blob,
-        owners,
-    )
-}
-
-fn answer_agrees(
-    answer: &[u8],
-    sig: &[u8],
-    tables: &[u8],
-    strings: &[u8],
-    blob: &[u8],
-    owners: Owners,
-) -> bool {
-    let refusal = refusal_in(answer);
-    if refusal != 0 {
-        let next = read_decimal(after(answer, 1));
-        let expected = Expected { refusal, next };
-        return rooms_agree(
-            sig,
-            tables,
-            strings,
-            blob,
-            owners,
-            expected,
-            b"",
-            0,
-            SHORT + 2,
-        );
+fn answer_agrees(asked: Asked<'_>, answer: &[u8]) -> bool {
+    if let Some(refused) = refused_in(answer) {
+        let expected = Expected {
+            text: Err(refused),
+            next: read_decimal(answer.get(2..).unwrap_or_default()),
+        };
+        return rooms_agree(asked, expected, 0, SHORT + MORE);
     }
-    let mut space = [0u8; 131072];
-    let right = expand(answer, b'n', &mut space);
-    let name = numbers::cut(&space, 0, right.len);
-    let next = read_decimal(after(answer, right.at));
-    text_agrees(
-        sig,
-        tables,
-        strings,
-        blob,
-        owners,
-        Expected { refusal, next },
-        name,
-    )
+    let mut space = [0u8; ROOM];
+    let (n, rest) = expand(answer, b'n', &mut space);
+    let text = numbers::cut(&space, 0, n);
+    let expected = Expected {
+        text: Ok(text),
+        next: read_decimal(rest.get(1..).unwrap_or_default()),
+    };
+    text_agrees(asked, expected, text.len())
 }
 
-// The refusal that an answer holds, or 0.
-fn refusal_in(answer: &[u8]) -> usize {
-    if answer.len() < 2 {
-        return 0;
-    }
-    if answer[0] != b'!' {
-        return 0;
-    }
-    read_decimal(numbers::cut(answer, 1, 1))
+// The refusal that an answer holds, of one digit.
+fn refused_in(answer: &[u8]) -> Option<Refused> {
+    let digit = answer.strip_prefix(b"!")?.get(..1)?;
+    let number = read_decimal(digit);
+    (number != 0).then_some(Refused { number, reason: 0 })
 }
 
-fn text_agrees(
-    sig: &[u8],
-    tables: &[u8],
-    strings: &[u8],
-    blob: &[u8],
-    owners: Owners,
-    expected: Expected,
-    name: &[u8],
-) -> bool {
-    let n = name.len();
+// Whether a text of n bytes is answered right in the buffers that are tried.
+fn text_agrees(asked: Asked<'_>, expected: Expected<'_>, n: usize) -> bool {
     if n <= SHORT {
-        return rooms_agree(sig, tables, strings, blob, owners, expected, name, 0, n + 2);
+        return rooms_agree(asked, expected, 0, n + MORE);
     }
-    rooms_agree(sig, tables, strings, blob, owners, expected, name, 0, 0)
-        && rooms_agree(
-            sig,
-            tables,
-            strings,
-            blob,
-            owners,
-            expected,
-            name,
-            n - 1,
-            n + 1,
-        )
+    rooms_agree(asked, expected, 0, 0) && rooms_agree(asked, expected, n - 1, n.saturating_add(1))
 }
 
 // Whether a type is answered right in buffers of so many bytes to so many.
-fn rooms_agree(
-    sig: &[u8],
-    tables: &[u8],
-    strings: &[u8],
-    blob: &[u8],
-    owners: Owners,
-    expected: Expected,
-    name: &[u8],
-    least: usize,
-    most: usize,
-) -> bool {
-    if 131_072 < most {
+fn rooms_agree(asked: Asked<'_>, expected: Expected<'_>, least: usize, most: usize) -> bool {
+    most <= ROOM && (least..=most).all(|room| room_agrees(asked, expected, room))
+}
+
+fn room_agrees(asked: Asked<'_>, expected: Expected<'_>, room: usize) -> bool {
+    let mut space = [0xAAu8; ROOM];
+    let Some(buffer) = space.get_mut(..room) else {
         return false;
-    }
-    let mut room = least;
-    while room <= most {
-        if !room_agrees(sig, tables, strings, blob, owners, expected, name, room) {
-            return false;
-        }
-        room += 1;
-    }
-    true
+    };
+    let came = render(asked, buffer);
+    came.next == expected.next && is_answer(in_numbers(came.reply), expected.text, buffer)
 }
 
-fn room_agrees(
-    sig: &[u8],
-    tables: &[u8],
-    strings: &[u8],
-    blob: &[u8],
-    owners: Owners,
-    expected: Expected,
-    name: &[u8],
-    room: usize,
-) -> bool {
-    let mut space = [0xAAu8; 131072];
-    let came = render_in(&mut space, room, sig, tables, strings, blob, owners);
-    came_agrees(came, expected, name, numbers::cut(&space, 0, room))
-}
-
-fn render_in(
-    space: &mut [u8],
-    room: usize,
-    sig: &[u8],
-    tables: &[u8],
-    strings: &[u8],
-    blob: &[u8],
-    owners: Owners,
-) -> Came {
-    if space.len() < room {
-        return Came {
-            reply: Reply::No(Refusal::BadInput),
-            next: 0,
-        };
+// A reply, with what says no as a number. No reason is recorded.
+fn in_numbers(came: Reply) -> Result<usize, Refused> {
+    match came {
+        Ok(n) => Ok(n),
+        Err(why) => Err(Refused {
+            number: refusal_number(why) as usize,
+            reason: 0,
+        }),
     }
-    render(&mut space[..room], sig, tables, strings, blob, owners)
 }
 
-fn render(
-    buf: &mut [u8],
-    sig: &[u8],
-    tables: &[u8],
-    strings: &[u8],
-    blob: &[u8],
-    owners: Owners,
-) -> Came {
+fn render(asked: Asked<'_>, buf: &mut [u8]) -> Came {
     let mut layout = [0u32; columns::SIZE];
-    match opening::open(tables, base_options(), &mut layout) {
-        Opened::Refused(why) => Came {
-            reply: Reply::No(why),
+    match opening::open(asked.block.tables, base_options(), &mut layout) {
+        Err(why) => Came {
+            reply: Err(why),
             next: 0,
         },
-        Opened::Ready => render_by(buf, sig, tables, strings, blob, &layout, owners),
+        Ok(()) => render_by(asked, &layout, buf),
     }
 }
 
-fn render_by(
-    buf: &mut [u8],
-    sig: &[u8],
-    tables: &[u8],
-    strings: &[u8],
-    blob: &[u8],
-    layout: &[u32],
-    owners: Owners,
-) -> Came
-    requires { Laid tables.now layout.now }
+fn render_by(asked: Asked<'_>, layout: &[u32], buf: &mut [u8]) -> Came
+    requires { Laid asked.block.tables.now layout.now }
 {
-    let class = owners.class;
-    let method = owners.method;
+    let Block {
+        tables,
+        strings,
+        blob,
+        ..
+    } = asked.block;
+    let Owners { class, method } = asked.owners;
     match signatures::parse_sig_type(
-        buf, 0, tables, strings, blob, layout, class, method, sig, 0, LEVELS,
+        buf, 0, tables, strings, blob, layout, class, method, asked.sig, 0, LEVELS,
     ) {
-        Rendering::Done(end, next) => {
+        Ok((end, next)) => {
             let reply = buffers::finish(buf, end);
             Came { reply, next }
         }
-        Rendering::Failed(next) => {
+        Err(next) => {
             let reply = buffers::refuse(buf, Refusal::NoName(Reason::Untold));
             Came { reply, next }
         }
     }
-}
-
-fn came_agrees(came: Came, expected: Expected, name: &[u8], buffer: &[u8]) -> bool {
-    let reply = came.reply;
-    came.next == expected.next && reply_agrees(reply, expected.refusal, name, buffer)
-}
-
-fn reply_agrees(reply: Reply, refusal: usize, name: &[u8], buffer: &[u8]) -> bool {
-    let expected = refusal_in_room(refusal, name, buffer.len());
-    match reply {
-        Reply::Is(n) => {
-            if expected != 0 {
-                return false;
-            }
-            if n != name.len() {
-                return false;
-            }
-            same(numbers::cut(buffer, 0, n), name) && is_zero_from(buffer, n)
-        }
-        Reply::No(why) => (refusal_number(why) as usize) == expected && is_zero_from(buffer, 0),
-    }
-}
-
-// 6 where a text exists and has no room.
-fn refusal_in_room(refusal: usize, name: &[u8], room: usize) -> usize {
-    if refusal != 0 {
-        return refusal;
-    }
-    if room < name.len() {
-        return 6;
-    }
-    0
-}
-
-fn is_zero_from(buffer: &[u8], from: usize) -> bool {
-    let mut i = from;
-    while i < buffer.len() {
-        if buffer[i] != 0 {
-            return false;
-        }
-        i += 1;
-    }
-    true
 }

@@ -1,65 +1,40 @@
 // What each kind of case answers, as text.
 use super::walk_text::push_walk;
-use buffers::{Reason, Refusal, Reply, push, push_decimal, put, refusal_number, write_name};
+use buffers::{
+    Reason, Refusal, Reply, push, push_decimal, put, reason_number, refusal_number, write_name,
+};
 use case_text::low_bits;
-use check::same;
-use heaps::{Heap, Part};
-use numbers::{Sint, Uint, read_index, read_sint, read_u16, read_u32, read_uint};
+use heaps::{Heap, Part, Span};
+use numbers::{Signed, Sint, Uint, read_index, read_sint, read_u16, read_u32, read_uint};
 
 pub fn push_answer(out: &mut [u8], kind: &[u8], bytes: &[u8], number: usize) -> usize {
-    if same(kind, b"unsigned") {
-        return push_uint(out, read_uint(bytes, number));
+    match kind {
+        b"unsigned" => push_uint(out, read_uint(bytes, number)),
+        b"signed" => push_sint(out, read_sint(bytes, number)),
+        b"u16" => push_uint(out, read_u16(bytes, number)),
+        b"u32" => push_uint(out, read_u32(bytes, number)),
+        b"index2" => push_uint(out, read_index(bytes, number, 2)),
+        b"index4" => push_uint(out, read_index(bytes, number, 4)),
+        b"string" => push_lookup(out, bytes, Heap::Strings, low_bits(number)),
+        b"blob" => push_lookup(out, bytes, Heap::Blobs, low_bits(number)),
+        b"string-at" => push_place(out, heaps::get_string(bytes, number)),
+        b"blob-at" => push_place(out, heaps::get_blob(bytes, number)),
+        b"walk" => push_walk(out, bytes, number),
+        b"name" => push_name(out, bytes, number),
+        b"refuse" => push_refused(out),
+        b"decimal" => push_decimal(out, 0, number),
+        _ => push(out, 0, b"no such kind"),
     }
-    if same(kind, b"signed") {
-        return push_sint(out, read_sint(bytes, number));
-    }
-    if same(kind, b"u16") {
-        return push_uint(out, read_u16(bytes, number));
-    }
-    if same(kind, b"u32") {
-        return push_uint(out, read_u32(bytes, number));
-    }
-    if same(kind, b"index2") {
-        return push_uint(out, read_index(bytes, number, 2));
-    }
-    if same(kind, b"index4") {
-        return push_uint(out, read_index(bytes, number, 4));
-    }
-    if same(kind, b"string") {
-        return push_lookup(out, bytes, Heap::Strings, low_bits(number));
-    }
-    if same(kind, b"blob") {
-        return push_lookup(out, bytes, Heap::Blobs, low_bits(number));
-    }
-    if same(kind, b"string-at") {
-        return push_place(out, heaps::get_string(bytes, number));
-    }
-    if same(kind, b"blob-at") {
-        return push_place(out, heaps::get_blob(bytes, number));
-    }
-    if same(kind, b"walk") {
-        return push_walk(out, bytes, number);
-    }
-    if same(kind, b"name") {
-        return push_name(out, bytes, number);
-    }
-    if same(kind, b"refuse") {
-        return push_refused(out);
-    }
-    if same(kind, b"decimal") {
-        return push_decimal(out, 0, number);
-    }
-    push(out, 0, b"no such kind")
 }
 
 // `127, next 1`, or `none, next 1`.
 fn push_uint(out: &mut [u8], came: Uint) -> usize {
     match came {
-        Uint::Number(n, next) => {
+        Ok((n, next)) => {
             let at = push_decimal(out, 0, n as usize);
             push_next(out, at, next)
         }
-        Uint::NoNumber(next) => {
+        Err(next) => {
             let at = push(out, 0, b"none");
             push_next(out, at, next)
         }
@@ -69,16 +44,16 @@ fn push_uint(out: &mut [u8], came: Uint) -> usize {
 // `-3, next 1`, or `none, next 1`.
 fn push_sint(out: &mut [u8], came: Sint) -> usize {
     match came {
-        Sint::Plus(n, next) => {
+        Ok((Signed::Plus(n), next)) => {
             let at = push_decimal(out, 0, n as usize);
             push_next(out, at, next)
         }
-        Sint::Minus(n, next) => {
+        Ok((Signed::Minus(n), next)) => {
             let minus = push(out, 0, b"-");
             let at = push_decimal(out, minus, n as usize);
             push_next(out, at, next)
         }
-        Sint::NoInteger(next) => {
+        Err(next) => {
             let at = push(out, 0, b"none");
             push_next(out, at, next)
         }
@@ -93,13 +68,17 @@ fn push_next(out: &mut [u8], at: usize, next: usize) -> usize {
 // The refusal of a raw lookup, 0 if there is none, with a point and the reason where one is told; and the part handed back. Both heaps are
 // the same bytes.
 fn push_lookup(out: &mut [u8], bytes: &[u8], heap: Heap, index: u32) -> usize {
-    let mut refusal = 0;
-    let mut reason = 0;
-    let part = heaps::lookup(bytes, bytes, heap, index, &mut refusal, &mut reason);
-    let number = push_decimal(out, 0, refusal as usize);
-    let told = push_reason(out, number, reason);
-    let at = put(out, told, b' ');
-    push(out, at, part)
+    match heaps::lookup(bytes, bytes, heap, index) {
+        Ok(part) => {
+            let at = push(out, 0, b"0 ");
+            push(out, at, part)
+        }
+        Err(why) => {
+            let number = push_decimal(out, 0, usize::from(refusal_number(why)));
+            let told = push_reason(out, number, reason_number(why));
+            put(out, told, b' ')
+        }
+    }
 }
 
 fn push_reason(out: &mut [u8], at: usize, reason: u8) -> usize {
@@ -113,27 +92,20 @@ fn push_reason(out: &mut [u8], at: usize, reason: u8) -> usize {
 // `5 + 3` for three bytes at place 5, or `absent`.
 fn push_place(out: &mut [u8], came: Part) -> usize {
     match came {
-        Part::Found { start, len } => {
+        Ok(Span { start, len }) => {
             let at = push_decimal(out, 0, start);
             let plus = push(out, at, b" + ");
             push_decimal(out, plus, len)
         }
-        Part::Absent(_) => push(out, 0, b"absent"),
+        Err(_) => push(out, 0, b"absent"),
     }
 }
 
 // The reply and the buffer after a name was answered in so much room of a buffer of eight.
 fn push_name(out: &mut [u8], name: &[u8], room: usize) -> usize {
     let mut space = [0xAAu8; 8];
-    let r = answer_in(&mut space, room, name);
+    let r = write_name(&mut space[..room.min(8)], name);
     push_reply(out, r, &space)
-}
-
-fn answer_in(buffer: &mut [u8], room: usize, name: &[u8]) -> Reply {
-    if buffer.len() < room {
-        return write_name(buffer, name);
-    }
-    write_name(&mut buffer[..room], name)
 }
 
 // The same of a call that is refused, with 5, in room of eight.
@@ -146,12 +118,12 @@ fn push_refused(out: &mut [u8]) -> usize {
 // `is 3 int..###`, or `no 6 ..######`: a zero is shown as `.`, a byte that was not touched as `#`.
 fn push_reply(out: &mut [u8], came: Reply, buffer: &[u8]) -> usize {
     match came {
-        Reply::Is(n) => {
+        Ok(n) => {
             let is = push(out, 0, b"is ");
             let at = push_decimal(out, is, n);
             push_buffer(out, at, buffer)
         }
-        Reply::No(why) => {
+        Err(why) => {
             let no = push(out, 0, b"no ");
             let at = push_decimal(out, no, refusal_number(why) as usize);
             push_buffer(out, at, buffer)
@@ -161,10 +133,8 @@ fn push_reply(out: &mut [u8], came: Reply, buffer: &[u8]) -> usize {
 
 fn push_buffer(out: &mut [u8], at: usize, buffer: &[u8]) -> usize {
     let mut k = put(out, at, b' ');
-    let mut i = 0;
-    while i < buffer.len() {
-        k = put(out, k, shown(buffer[i]));
-        i += 1;
+    for b in buffer {
+        k = put(out, k, shown(*b));
     }
     k
 }

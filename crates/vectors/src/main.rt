@@ -6,95 +6,68 @@
 
 #![tactic(auto)]
 
-ghost use Rattle.std.specs.Prelude.{◌≤◌};
-
 mod answers;
 mod walk_text;
 
+use case_text::{cut_at, is_case};
+use replaying::Tally;
 use std::rt::Files;
 use std::{fs, io};
 
-// Bytes for a file of cases.
+// Bytes for a file of cases, for the bytes of a case, and for its answer.
 const ROOM: usize = 65_536;
 
-fn write(rt: &impl Print, text: &[u8]) {
-    let _ = rt.write_all(text);
+const BYTES: usize = 256;
+
+const ANSWER: usize = 256;
+
+fn write_agreed(rt: &impl Print, line: &[u8]) -> io::Result<()> {
+    rt.write_all(b"ok    ")?;
+    rt.write_all(line)?;
+    rt.write_all(b"\n")
 }
 
-// Says on standard error why a file cannot be opened.
-fn write_failed(rt: &impl Eprint, path: &str, why: io::Error) {
-    let _ = eprintln!(rt; "{path}: {why}");
-}
-
-fn write_agreed(rt: &impl Print, line: &[u8]) {
-    write(rt, b"ok    ");
-    write(rt, line);
-    write(rt, b"\n");
-}
-
-fn write_wrong(rt: &impl Print, line: &[u8], came: &[u8]) {
-    write(rt, b"WRONG ");
-    write(rt, line);
-    write(rt, b", came ");
-    write(rt, came);
-    write(rt, b"\n");
+fn write_wrong(rt: &impl Print, line: &[u8], came: &[u8]) -> io::Result<()> {
+    rt.write_all(b"WRONG ")?;
+    rt.write_all(line)?;
+    rt.write_all(b", came ")?;
+    rt.write_all(came)?;
+    rt.write_all(b"\n")
 }
 
 // Whether the case agrees.
 fn run_case(rt: &impl Print, line: &[u8], loud: bool) -> bool {
-    let kind = case_text::first(line);
-    let after_kind = case_text::after(line, kind.len());
-    let hex = case_text::first(after_kind);
-    let after_bytes = case_text::after(after_kind, hex.len());
-    let digits = case_text::first(after_bytes);
-    let after_number = case_text::after(after_bytes, digits.len());
-    let expected = case_text::after(after_number, 1);
-    let mut bytes = [0u8; 256];
+    let (kind, rest) = cut_at(line, b' ');
+    let (hex, rest) = cut_at(rest, b' ');
+    let (digits, rest) = cut_at(rest, b' ');
+    let expected = rest.get(2..).unwrap_or_default();
+    let mut bytes = [0u8; BYTES];
     let n = case_text::read_hex(hex, &mut bytes);
     let number = case_text::read_decimal(digits);
-    let mut space = [0u8; 256];
+    let mut space = [0u8; ANSWER];
     let m = answers::push_answer(&mut space, kind, numbers::cut(&bytes, 0, n), number);
     let came = numbers::cut(&space, 0, m);
-    let agrees = check::same(came, expected);
+    let agrees = came == expected;
     if !agrees {
-        write_wrong(rt, line, came);
-        return false;
+        let _ = write_wrong(rt, line, came);
+    } else if loud {
+        let _ = write_agreed(rt, line);
     }
-    if loud {
-        write_agreed(rt, line);
-    }
-    true
+    agrees
 }
 
-// 1 if the line holds a case that agrees.
-fn run_line(rt: &impl Print, line: &[u8], loud: bool) -> usize
-    ensures { result ≤ 1 }
-{
-    if line.len() == 0 {
-        return 0;
+// The cases of a text.
+fn run_cases(rt: &impl Print, text: &[u8], loud: bool) -> Tally {
+    let mut tally = Tally::default();
+    let lines = text.split(|b| *b == b'\n');
+    for line in lines.filter(|line| is_case(line)) {
+        tally.count(run_case(rt, line, loud));
     }
-    if line[0] == b'#' {
-        return 0;
-    }
-    if run_case(rt, line, loud) {
-        return 1;
-    }
-    0
+    tally
 }
 
-// How many cases agree.
-fn run_cases(rt: &impl Print, text: &[u8], loud: bool) -> usize {
-    let mut agreed = 0;
-    let mut at = 0;
-    while at < text.len() {
-        let end = heaps::find_byte(text, at, b'\n');
-        agreed += run_line(rt, numbers::cut(text, at, end - at), loud);
-        at = end + 1;
-    }
-    agreed
-}
-
-fn run_file(rt: &(impl Files + Print + Eprint), path: &str, loud: bool) -> usize {
+// The cases of a file, or none where it cannot be opened, which standard error says.
+fn run_file(rt: &(impl Files + Print + Eprint), path: &str, loud: bool) -> Tally {
     match fs::open(rt, path) {
         Ok(mut file) => {
             let mut space = [0u8; ROOM];
@@ -102,19 +75,16 @@ fn run_file(rt: &(impl Files + Print + Eprint), path: &str, loud: bool) -> usize
             run_cases(rt, numbers::cut(&space, 0, n), loud)
         }
         Err(why) => {
-            write_failed(rt, path, why);
-            0
+            let _ = eprintln!(rt; "{path}: {why}");
+            Tally::default()
         }
     }
 }
 
 fn main(rt: HostRuntime) {
     run_file(&rt, "cases", true);
-    let agreed = run_file(&rt, "recorded", false);
-    let mut space = [0u8; 64];
-    let n = buffers::push_decimal(&mut space, 0, agreed);
-    write(&rt, numbers::cut(&space, 0, n));
-    write(&rt, b" recorded answers of the Rust agree\n");
-    write(&rt, b"wrong on purpose:\n");
+    let agreed = run_file(&rt, "recorded", false).agreed;
+    let _ = println!(rt; "{agreed} recorded answers of the Rust agree");
+    let _ = println!(rt; "wrong on purpose:");
     run_file(&rt, "wrong", true);
 }

@@ -1,5 +1,5 @@
 // The walk, as text: `4:32+2047x6 stop 64` for 2,047 rows of 6 bytes of kind 4 from byte 32 on, or `no 3`.
-use buffers::{Reply, push, push_decimal, put, refusal_number};
+use buffers::{push, push_decimal, put, refusal_number};
 use tables::Extents;
 
 // Bytes for a stream.
@@ -14,33 +14,22 @@ pub fn push_walk(out: &mut [u8], begin: &[u8], zeros: usize) -> usize {
 fn walk_of(begin: &[u8], zeros: usize) -> Extents {
     let mut space = [0u8; ROOM];
     let n = push(&mut space, 0, begin);
-    walks::walk(numbers::cut(&space, 0, sum(n, zeros)))
+    walks::walk(numbers::cut(&space, 0, n.saturating_add(zeros)))
 }
 
 fn push_extents(out: &mut [u8], w: Extents) -> usize {
     let answer = w.answer;
     match answer {
-        Reply::Is(stop) => {
+        Ok(stop) => {
             let at = push_tables(out, w);
             let k = push(out, at, b"stop ");
             push_decimal(out, k, stop)
         }
-        Reply::No(why) => {
+        Err(why) => {
             let k = push(out, 0, b"no ");
             push_decimal(out, k, refusal_number(why) as usize)
         }
     }
-}
-
-// A sum of small numbers.
-fn sum(a: usize, b: usize) -> usize {
-    if 65_536 < a {
-        return 0;
-    }
-    if 65_536 < b {
-        return 0;
-    }
-    a + b
 }
 
 fn push_tables(out: &mut [u8], w: Extents) -> usize {
@@ -48,10 +37,8 @@ fn push_tables(out: &mut [u8], w: Extents) -> usize {
     let sizes = w.sizes;
     let rows = w.rows;
     let mut at = 0;
-    let mut kind = 0;
-    while kind < 64 {
+    for kind in 0..64 {
         at = push_table(out, at, kind, starts[kind], sizes[kind], rows[kind]);
-        kind += 1;
     }
     at
 }

@@ -9,8 +9,7 @@ use lib.Dec.{eqb, lit<}
 use lib.ListN.{get_or}
 use Rattle.numbers.specs.Bits.{bit_at}
 use Rattle.numbers.specs.Fixed.{TwoOrFour}
-use Rattle.header.specs.Stream.{opened}
-use Rattle.header.specs.declared.Header.{Header}
+use Rattle.header.specs.Stream.{opened, Opening}
 use Rattle.header.specs.declared.Options.{Options}
 use Rattle.header.proofs.Cases.{all-counted}
 use Rattle.layouts.specs.declared.IndexSizes.{IndexSizes}
@@ -98,26 +97,25 @@ coded-few decl cs setting =
     omega (arith, setting 0, n.1, p.1, t.1)
 
 -- A block of the table, by the settings of a stream: its row sizes are the stream's.
-module _ (o : Options) (s : List ℕ) {h : Header} (e : h ≡ opened o s) (l : o.limit ≤ old_limit) {byte heap coded : ℕ} {block : List ℕ}
-    (a : byte ≡ h.heap) (b : heap ≡ byte) (is : block ≡ get_or row_table coded [])
+module _ (o : Options) (s : List ℕ) {h : Opening} (e : h ≡ opened o s) (l : o.limit ≤ old_limit) {low coded : ℕ} {block : List ℕ}
+    (heap : low ≡ h.heap % 8) (is : block ≡ get_or row_table coded [])
     (setting : (heap : ℕ) → coded ≡ coded_setting (index_sizes o.security heap h.counts)) where
   few : (t : ℕ) → get_or h.counts t 0 ≤ old_limit
   few t = rw e (omega (arith, all-counted o s t))
 
-  sizes-are : in_block block (heap % 8) ≡ row_size_in o h
+  sizes-are : in_block block low ≡ row_size_in o h
   sizes-are =
-      let n : heap ≡ h.heap = b ∙ a in
-      let m : heap % 8 < 8 = omega arith in
-      ap (λ (x : List ℕ). in_block x (heap % 8)) is
-      ∙ by-table (heap % 8) coded m (coded-few o.security h.counts setting)
-      ∙ ap (λ (k : ℕ). row_size (width_in (sizes_under (k % 8) coded))) n
+      let m : low < 8 = omega arith in
+      ap (λ (x : List ℕ). in_block x low) is
+      ∙ by-table low coded m (coded-few o.security h.counts setting)
+      ∙ ap (λ (k : ℕ). row_size (width_in (sizes_under k coded))) heap
       ∙ ap (λ (k : ℕ). row_size (width_in (sizes_under (h.heap % 8) k))) (setting h.heap)
       ∙ ap (λ (x : IndexSizes). row_size (width_in x)) (narrow o.security h.heap h.counts few)
 
-  pub block-some : (k : ℕ) → k < 45 → 0 < in_block block (heap % 8) k
+  pub block-some : (k : ℕ) → k < 45 → 0 < in_block block low k
   block-some k m = omega (arith, ap (λ (f : ℕ → ℕ). f k) sizes-are, size-pos o.security h.heap h.counts k m)
 
-  pub block-walks : (n : ℕ) → walked (in_block block (heap % 8)) h.counts n h.first ≡ walked (row_size_in o h) h.counts n h.first
+  pub block-walks : (n : ℕ) → walked (in_block block low) h.counts n h.first ≡ walked (row_size_in o h) h.counts n h.first
   block-walks n = ap (λ (f : ℕ → ℕ). walked f h.counts n h.first) sizes-are
 
 pub one-reply : OneReply

@@ -7,8 +7,7 @@ ghost use Rattle.std.specs.Prelude.{◌≡◌};
 ghost use Rattle.header.specs.Stream.{base};
 ghost use Rattle.tables.specs.Extents.{walk_says, walk_of};
 
-use header::{Opened, Options};
-use numbers::{byte, wide};
+use header::Options;
 use tables::Extents;
 
 // The largest limit that the table of row sizes serves.
@@ -18,18 +17,12 @@ const TABLE_LIMIT: u32 = 15_000;
 pub fn walk_with(tables: &[u8], options: Options) -> Extents
     ensures { walk_says result ≡ walk_of options tables.now }
 {
-    let h = header::read_header(tables, options);
-    let answer = h.answer;
-    let counts = h.counts;
-    let first = h.first;
-    let heap = h.heap;
-    let security = options.security;
-    match answer {
-        Opened::Refused(why) => tables::refused_extents(why),
-        Opened::Ready => {
-            let sizes = layouts::index_sizes(heap, &counts, security);
-            tables::walk_tables(tables.len(), first, &counts, sizes)
+    match header::read_header(tables, options) {
+        Ok(h) => {
+            let sizes = layouts::index_sizes(h.heap, &h.counts, options.security);
+            tables::walk_tables(tables.len(), h.first, &h.counts, sizes)
         }
+        Err(why) => tables::refused_extents(why),
     }
 }
 
@@ -38,22 +31,16 @@ pub fn walk_with(tables: &[u8], options: Options) -> Extents
 pub fn walk_by_table(tables: &[u8], options: Options) -> Extents
     ensures { walk_says result ≡ walk_of options tables.now }
 {
-    let limit = options.limit;
-    if TABLE_LIMIT < limit {
+    if TABLE_LIMIT < options.limit {
         return walk_with(tables, options);
     }
-    let h = header::read_header(tables, options);
-    let answer = h.answer;
-    let first = h.first;
-    let heap = h.heap;
-    let counted = options.security;
-    match answer {
-        Opened::Refused(why) => tables::refused_extents(why),
-        Opened::Ready => {
-            let block = row_table::row_block(layouts::coded_setting(&h.counts, counted));
-            let bits = wide(byte(heap)) % 8;
-            tables::blocks::walk_block(tables.len(), first, &h.counts, &block, bits)
+    match header::read_header(tables, options) {
+        Ok(h) => {
+            let block = row_table::row_block(layouts::coded_setting(&h.counts, options.security));
+            let setting = usize::from(h.heap % 8);
+            tables::blocks::walk_block(tables.len(), h.first, &h.counts, block, setting)
         }
+        Err(why) => tables::refused_extents(why),
     }
 }
 

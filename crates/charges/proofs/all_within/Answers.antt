@@ -18,15 +18,15 @@ returns-then-types-gt-CEILING c = λ strings e. absurd (subst T (sym e) tt)
 
 pub overflow_sub-types : goal.overflow_sub-types
 overflow_sub-types c =
-    let sized = c.larger-types.ensures in
-    one-at-least _ (omega (arith, c.if-types-gt-CEILING.false)) (omega (arith, sized.1))
+    let sized = c.max-types.ensures in
+    one-at-least _ (omega (arith, c.if-types-gt-CEILING.false)) (omega (arith, sized))
 
 pub returns : goal.returns
 returns c = λ strings e.
-    let sized = c.larger-types.ensures in
+    let sized = c.max-types.ensures in
     let a = c.args in
     let once = c.is_read_once.ensures a.tables.now strings a.blob.now in
     let yes = c.if-not-is_read_once.false in
-    let few = share-fits c.larger-types.result (omega (arith, c.if-types-gt-CEILING.false)) (omega (arith, sized.1)) in
-    all_fit c.requires strings a.blob.now once yes few (omega (arith, sized.0)) (omega (arith, sized.1, c.count_rows-rows.ensures))
+    let few = share-fits c.max-types.result (omega (arith, c.if-types-gt-CEILING.false)) (omega (arith, sized)) in
+    all_fit c.requires strings a.blob.now once yes few (omega (arith, sized)) (omega (arith, sized, c.count_rows-rows.ensures))
     (λ g h. c.specs_suffice.ensures strings g h e)

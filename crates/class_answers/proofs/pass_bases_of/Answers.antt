@@ -10,11 +10,11 @@ class_row-requires c = (rows-narrow c.requires columns.type_name (omega arith), 
 
 pub pass_bases-requires : goal.pass_bases-requires
 pass_bases-requires c =
-    let at = class-found c.class_row.ensures c.in-Row.is in
+    let at = class-found c.class_row.ensures c.in-Some.is in
     record { laid = c.requires; lt_row = (omega (arith, at.0), omega (arith, at.0, at.1)) }
 
-pub returns-in-Row : goal.returns-in-Row
-returns-in-Row c = class-takes c.requires _ _ _ (class-found c.class_row.ensures c.in-Row.is) c.pass_bases.ensures
+pub returns : goal.returns
+returns c = class-takes c.requires _ _ _ (class-found c.class_row.ensures c.in-Some.is) c.pass_bases.ensures
 
-pub returns-in-NoRow : goal.returns-in-NoRow
-returns-in-NoRow c = no-class-takes c.requires _ _ _ (class-missed c.class_row.ensures c.in-NoRow.is) _
+pub returns-in_default : goal.returns-in_default
+returns-in_default c = no-class-takes c.requires _ _ _ (class-missed c.class_row.ensures c.in_default.is) _

@@ -10,15 +10,15 @@ class_row-requires c = (rows-narrow c.requires.laid columns.type_name (omega ari
 
 pub push_base-based-requires : goal.push_base-based-requires
 push_base-based-requires c =
-    let at = class-found c.class_row.ensures c.in-Row.is in
+    let at = class-found c.class_row.ensures c.in-Some.is in
     record { laid = c.requires.laid; lt_row = (omega (arith, at.0), omega (arith, at.0, at.1)); knows_bases = c.requires.knows_bases }
 
-pub returns-in-Row : goal.returns-in-Row
-returns-in-Row c =
+pub returns : goal.returns
+returns c =
     let pushed = c.push_base-based.ensures in (
-      class-base c.requires.laid _ _ _ (class-found c.class_row.ensures c.in-Row.is) _ (c.told_base.ensures _ _ _ _ pushed.0),
+      class-base c.requires.laid _ _ _ (class-found c.class_row.ensures c.in-Some.is) _ (c.told_base.ensures _ _ _ _ pushed.0),
       pushed.1,
     )
 
-pub returns-in-NoRow : goal.returns-in-NoRow
-returns-in-NoRow c = (no-class-base c.requires.laid _ _ _ (class-missed c.class_row.ensures c.in-NoRow.is) _ _ _, c.requires.knows_bases)
+pub returns-in_default : goal.returns-in_default
+returns-in_default c = (no-class-base c.requires.laid _ _ _ (class-missed c.class_row.ensures c.in_default.is) _ _ _, c.requires.knows_bases)

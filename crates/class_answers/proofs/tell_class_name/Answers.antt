@@ -1,6 +1,6 @@
-use mathlib.Core.Path.{ap}
+use Rattle.std.proofs.Common.{rules, ◌≡◌, Err}
+use Rattle.buffers.specs.declared.Unnamed.TheVariants.{NoRow}
 use native.Mathlib.Omega.{arith}
-use Rattle.buffers.specs.Writes.{place_says}
 use Rattle.rows.specs.Columns as columns
 use Rattle.rows.proofs.Laws.{rows-narrow}
 use Rattle.places.proofs.Laws.{class-found, class-missed}
@@ -11,22 +11,22 @@ pub class_row-requires : goal.class_row-requires
 class_row-requires c = (rows-narrow c.requires columns.type_name (omega arith), c.requires.size)
 
 pub overflow_sub-i : goal.overflow_sub-i
-overflow_sub-i c = omega (arith, (class-found c.class_row.ensures c.in-Row.is).0)
+overflow_sub-i c = omega (arith, (class-found c.class_row.ensures c.in_ok-row.ensures.ok_part).0)
 
 pub missing_reason-requires : goal.missing_reason-requires
 missing_reason-requires c =
-    let at = class-found c.class_row.ensures c.in-Row.is in
+    let at = class-found c.class_row.ensures c.in_ok-row.ensures.ok_part in
     record { laid = c.requires; column_lt_count = (omega arith, omega (arith, at.0, at.1)) }
 
-pub returns-in-Next : goal.returns-in-Next
-returns-in-Next c = λ blob.
-    class-name c.requires _ blob _ (class-found c.class_row.ensures c.in-Row.is)
-    (rw (ap place_says c.in-Next.is) at (c.push_class_name.ensures blob))
+pub returns-in_err-row : goal.returns-in_err-row
+returns-in_err-row c = λ blob.
+    let e : c.from_residual.result ≡ Err NoRow = search rules in
+    rw e (no-class-name c.requires _ blob _ (class-missed c.class_row.ensures c.in_err-row.ensures.ok_part) _ _)
 
-pub returns-in-Missing : goal.returns-in-Missing
-returns-in-Missing c = λ blob.
-    class-nameless c.requires _ blob _ (class-found c.class_row.ensures c.in-Row.is)
-    (rw (ap place_says c.in-Missing.is) at (c.push_class_name.ensures blob)) c.missing_reason.ensures
+pub returns-in-Some : goal.returns-in-Some
+returns-in-Some c = λ blob.
+    class-name c.requires _ blob _ (class-found c.class_row.ensures c.in_ok-row.ensures.ok_part) (c.in-Some.ensures blob)
 
-pub returns-in-NoRow : goal.returns-in-NoRow
-returns-in-NoRow c = λ blob. no-class-name c.requires _ blob _ (class-missed c.class_row.ensures c.in-NoRow.is) _ _
+pub returns : goal.returns
+returns c = λ blob.
+    class-nameless c.requires _ blob _ (class-found c.class_row.ensures c.in_ok-row.ensures.ok_part) (c.in_default.ensures blob) c.missing_reason.ensures

@@ -1,4 +1,4 @@
-use Rattle.std.proofs.Common.{◌-◌, refl, arith}
+use Rattle.std.proofs.Common.{refl, arith}
 use Rattle.escapes.proofs.Writing.{special-above, byte-percent, two-percents, anew-start, anew-before, anew-room, anew-byte, anew-two, anew-eight, anew-rest, anew-done}
 use Rattle.escapes.proofs.write_anew.Goals as goal
 
@@ -11,23 +11,29 @@ bounds-out-from c = omega (arith, c.requires.1, c.loop-from.invariant.wrote.long
 pub bounds-out-from-then-b-gt-HIGHEST : goal.bounds-out-from-then-b-gt-HIGHEST
 bounds-out-from-then-b-gt-HIGHEST c = omega (arith, c.requires.1, c.loop-from.invariant.wrote.long, c.loop-from-test.true)
 
-pub put_two-requires : goal.put_two-requires
-put_two-requires c = omega (arith, c.requires.1, c.loop-from.invariant.wrote.long, anew-before c.requires.0 c.requires.1 c.requires.2 c.loop-from.invariant c.loop-from-test.true, c.loop-from-test.true)
+pub put_percent-requires : goal.put_percent-requires
+put_percent-requires c = omega (arith, c.requires.1, c.loop-from.invariant.wrote.long, anew-before c.requires.0 c.requires.1 c.requires.2 c.loop-from.invariant c.loop-from-test.true, c.loop-from-test.true)
+
+pub put_percent-requires-then-c-gt-HIGHEST : goal.put_percent-requires-then-c-gt-HIGHEST
+put_percent-requires-then-c-gt-HIGHEST c = omega (arith, c.put_percent.ensures.long, c.requires.1, c.loop-from.invariant.wrote.long, anew-before c.requires.0 c.requires.1 c.requires.2 c.loop-from.invariant c.loop-from-test.true, c.loop-from-test.true)
+
+pub overflow_add-to-then-c-gt-HIGHEST : goal.overflow_add-to-then-c-gt-HIGHEST
+overflow_add-to-then-c-gt-HIGHEST c = omega (arith, anew-before c.requires.0 c.requires.1 c.requires.2 c.loop-from.invariant c.loop-from-test.true, c.requires.1, c.loop-from-test.true)
 
 pub overflow_add-to : goal.overflow_add-to
 overflow_add-to c = omega (arith, anew-before c.requires.0 c.requires.1 c.requires.2 c.loop-from.invariant c.loop-from-test.true, c.requires.1, c.loop-from-test.true)
 
 pub loop-from-preserved-then-c-gt-HIGHEST : goal.loop-from-preserved-then-c-gt-HIGHEST
-loop-from-preserved-then-c-gt-HIGHEST c = anew-two c.requires.0 c.requires.1 c.requires.2 c.loop-from.invariant c.loop-from-test.true refl refl c.requires.3 c.if-c-gt-HIGHEST.true (two-percents _ _ (special-above _ c.if-b-gt-HIGHEST.true) (special-above _ c.if-c-gt-HIGHEST.true) c.put_two.ensures)
+loop-from-preserved-then-c-gt-HIGHEST c = anew-two c.requires.0 c.requires.1 c.requires.2 c.loop-from.invariant c.loop-from-test.true refl refl c.requires.3 c.if-c-gt-HIGHEST.true (two-percents _ _ (special-above _ c.if-b-gt-HIGHEST.true) (special-above _ c.if-c-gt-HIGHEST.true) c.put_percent.ensures c.put_percent-then-c-gt-HIGHEST.ensures)
 
-pub put_percent-requires : goal.put_percent-requires
-put_percent-requires c = omega (arith, c.requires.1, c.loop-from.invariant.wrote.long, anew-before c.requires.0 c.requires.1 c.requires.2 c.loop-from.invariant c.loop-from-test.true, c.loop-from-test.true)
+pub put_percent-requires-then-b-gt-HIGHEST : goal.put_percent-requires-then-b-gt-HIGHEST
+put_percent-requires-then-b-gt-HIGHEST c = omega (arith, c.requires.1, c.loop-from.invariant.wrote.long, anew-before c.requires.0 c.requires.1 c.requires.2 c.loop-from.invariant c.loop-from-test.true, c.loop-from-test.true)
 
 pub overflow_add-to-then-b-gt-HIGHEST : goal.overflow_add-to-then-b-gt-HIGHEST
 overflow_add-to-then-b-gt-HIGHEST c = omega (arith, anew-before c.requires.0 c.requires.1 c.requires.2 c.loop-from.invariant c.loop-from-test.true, c.requires.1, c.loop-from-test.true)
 
 pub loop-from-preserved-then-b-gt-HIGHEST : goal.loop-from-preserved-then-b-gt-HIGHEST
-loop-from-preserved-then-b-gt-HIGHEST c = anew-byte c.requires.0 c.requires.1 c.requires.2 c.loop-from.invariant c.loop-from-test.true refl (byte-percent _ (special-above _ c.if-b-gt-HIGHEST.true) refl c.put_percent.ensures)
+loop-from-preserved-then-b-gt-HIGHEST c = anew-byte c.requires.0 c.requires.1 c.requires.2 c.loop-from.invariant c.loop-from-test.true refl (byte-percent _ (special-above _ c.if-b-gt-HIGHEST.true) refl c.put_percent-then-b-gt-HIGHEST.ensures)
 
 pub read_eight-v-requires : goal.read_eight-v-requires
 read_eight-v-requires c = omega (arith, c.requires.1, c.loop-from.invariant.wrote.long, c.loop-from-test.true)

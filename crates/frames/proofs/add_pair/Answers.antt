@@ -1,4 +1,3 @@
-use Prim.Native.Nat.{◌-◌}
 use Rattle.frames.proofs.Turns as turns
 use Rattle.frames.proofs.add_pair.Goals as goal
 

@@ -1,21 +1,22 @@
-use mathlib.Core.Path.{sym, ap, ◌∙◌}
-use Prim.Native.Nat.{◌-◌}
+use mathlib.Core.Path.{refl}
 use native.Mathlib.Omega.{arith}
-use Rattle.numbers.specs.Compressed.{uint_says}
+use Rattle.std.proofs.lemmas.Result.{err_from_is_err_and}
 use Rattle.frames.proofs.Turns as turns
 use Rattle.frames.proofs.end_frame.Goals as goal
 
+pub returns-in_err-count : goal.returns-in_err-count
+returns-in_err-count c =
+    let up = err_from_is_err_and c.from_residual.result c.from_residual.ensures.1 in
+    rw (up.1, up.2) (turns.end-uncounted _ _ c.if-v-eq-FIRST_TYPE.true c.in_err-count.ensures)
+
 pub returns-then-count-eq0 : goal.returns-then-count-eq0
-returns-then-count-eq0 c = turns.end_empty _ _ c.if-v-eq-FIRST_TYPE.true (sym (ap uint_says c.in-Number.is) ∙ c.read_argument_count.ensures) c.if-count-eq0.true c.push.ensures
+returns-then-count-eq0 c = turns.end_empty _ _ c.if-v-eq-FIRST_TYPE.true c.in_ok-count.ensures c.if-count-eq0.true c.push.ensures
 
-pub narrow-requires : goal.narrow-requires
-narrow-requires c = omega (arith, turns.count_small _ _ (sym (ap uint_says c.in-Number.is) ∙ c.read_argument_count.ensures))
+pub overflow_cast-result : goal.overflow_cast-result
+overflow_cast-result c = omega (arith, turns.count_small _ _ c.in_ok-count.ensures)
 
-pub returns-in-Number : goal.returns-in-Number
-returns-in-Number c = turns.end-counted _ _ c.if-v-eq-FIRST_TYPE.true (sym (ap uint_says c.in-Number.is) ∙ c.read_argument_count.ensures) c.if-count-eq0.false c.narrow.ensures c.push-in-Number.ensures
-
-pub returns-in-NoNumber : goal.returns-in-NoNumber
-returns-in-NoNumber c = turns.end-uncounted _ _ c.if-v-eq-FIRST_TYPE.true (sym (ap uint_says c.in-NoNumber.is) ∙ c.read_argument_count.ensures)
+pub returns-then-v-eq-FIRST_TYPE : goal.returns-then-v-eq-FIRST_TYPE
+returns-then-v-eq-FIRST_TYPE c = turns.end-counted _ _ c.if-v-eq-FIRST_TYPE.true c.in_ok-count.ensures c.if-count-eq0.false refl c.push-then-v-eq-FIRST_TYPE.ensures
 
 pub returns-then-v-eq1 : goal.returns-then-v-eq1
 returns-then-v-eq1 c = turns.end-last _ _ c.if-v-eq1.true c.push-then-v-eq1.ensures
@@ -24,4 +25,4 @@ pub returns-then-v-le-MOST_ARGUMENTS : goal.returns-then-v-le-MOST_ARGUMENTS
 returns-then-v-le-MOST_ARGUMENTS c = turns.end-argument _ _ c.if-v-eq-FIRST_TYPE.false c.if-v-eq1.false c.if-v-le-MOST_ARGUMENTS.true c.push-then-v-le-MOST_ARGUMENTS.ensures
 
 pub returns : goal.returns
-returns c = turns.end-brackets _ _ c.if-v-le-MOST_ARGUMENTS.false c.wide.ensures c.push_brackets.ensures
+returns c = turns.end-brackets _ _ c.if-v-le-MOST_ARGUMENTS.false c.from.ensures c.push_brackets.ensures

@@ -5,6 +5,7 @@ use native.Mathlib.Omega.{arith}
 use lib.Count.{ones, ones-le, ones_step}
 use lib.Pow.{shr-shr}
 use Rattle.numbers.specs.Bits.{bit_at, ones_below}
+use Rattle.numbers.proofs.Bits.{ones-most}
 use borrow.Author.Rules.{rules}
 use Rattle.header.proofs.count_ones.Goals as goal
 
@@ -24,4 +25,6 @@ pub overflow_cast-result : goal.overflow_cast-result
 overflow_cast-result c = omega (arith, ones-le 64 c.args.mask (search rules))
 
 pub returns : goal.returns
-returns c = all_ones c.args.mask (search rules)
+returns c =
+    let ones = all_ones c.args.mask (search rules) in
+    (ones, rw ones (ones-most c.args.mask 64))

@@ -1,4 +1,4 @@
-use Rattle.std.proofs.Common.{◌-◌, refl, ◌∙◌, rules}
+use Rattle.std.proofs.Common.{refl, ◌∙◌, rules}
 use Rattle.heaps.proofs.Lookups.{find_past, find-end}
 use borrow.Author.Rules.{rules}
 use Rattle.heaps.proofs.find_byte.Goals as goal

@@ -4,16 +4,10 @@ use Rattle.rows.proofs.Laws.{rows-narrow}
 use Rattle.holding.proofs.Laws.{hold-start, hold-end}
 use Rattle.holding.proofs.hold.Goals as goal
 
-pub most-requires : goal.most-requires
-most-requires c = (
-  omega (arith, rows-narrow c.requires.laid columns.type_name (omega arith), c.count_rows-types.ensures),
-  omega (arith, rows-narrow c.requires.laid columns.method_name (omega arith), c.count_rows-methods.ensures),
-)
-
 pub hold_sorted-nested_at-requires : goal.hold_sorted-nested_at-requires
 hold_sorted-nested_at-requires c =
-    let bare = hold-start _ _ _ (omega (arith, c.work-1.given, c.requires.size_in_bounds)) c.copy_layout.ensures in
-    record { laid = c.requires.laid; column_lt_count = (omega arith, omega arith, omega (arith, c.most.ensures), λ m s. s); holding = bare }
+    let bare = hold-start _ _ _ (omega (arith, c.requires.size_in_bounds)) c.copy_layout.ensures in
+    record { laid = c.requires.laid; column_lt_count = (omega arith, omega arith, omega (arith, rows-narrow c.requires.laid columns.type_name (omega arith), rows-narrow c.requires.laid columns.method_name (omega arith), c.count_rows-types.ensures, c.count_rows-methods.ensures, c.max.ensures), λ m s. s); holding = bare }
 
 pub overflow_add-types : goal.overflow_add-types
 overflow_add-types c = record { fits = omega (arith, rows-narrow c.requires.laid columns.type_name (omega arith), c.count_rows-types.ensures) }

@@ -1,11 +1,8 @@
 use mathlib.Core.Path.{◌≡◌}
-use Prim.Native.Nat.{◌-◌, ◌≤◌}
-use Rattle.rows.specs.Layout.{rows_at, cell}
+use Prim.Native.Nat.{◌≤◌}
+use Rattle.rows.specs.Layout.{cell}
 use Rattle.rows.specs.Held.{keyed}
 use Rattle.keys.proofs.find_scanned.Given as goal
 
 abbrev pub invariant-loop-i : goal.invariant-loop-i
-invariant-loop-i l = (l.i ≤ l.n) × (l.n ≡ rows_at l.layout l.column) × (l.seen ≤ l.i) × (l.seen ≤ l.nth) × (l.seen ≡ keyed (cell l.tables l.layout l.column) l.key l.i)
-
-abbrev pub decreases-loop-i : goal.decreases-loop-i
-decreases-loop-i l = l.n - l.i
+invariant-loop-i l = (l.seen ≤ l.i) × (l.seen ≤ l.nth) × (l.seen ≡ keyed (cell l.tables l.layout l.column) l.key l.i)

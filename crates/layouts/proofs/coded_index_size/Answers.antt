@@ -1,26 +1,23 @@
-use mathlib.Core.Path.{refl}
-use Prim.Native.Nat.{◌-◌}
-use native.Mathlib.Omega.{arith}
-use Rattle.layouts.proofs.Reaches.{below, found, passed, none}
+use Rattle.std.proofs.Common.{◌<◌, rules, tests}
+use Rattle.std.proofs.lemmas.Grind.{get_or_default_zero}
+use Rattle.std.proofs.lemmas.Iterator.{YieldsList-from_slice}
+use Rattle.std.proofs.lemmas.Iterator.Adapters.{serves_from_places}
+use Rattle.std.proofs.lemmas.Iterator.Search.{any_from_yields_List}
+use Rattle.layouts.proofs.Reaches.{below, reached_at, size-by_any}
 use Rattle.layouts.proofs.coded_index_size.Goals as goal
 
-pub loop-i-init : goal.loop-i-init
-loop-i-init c = refl
+pub any-requires-clause-callable : goal.any-requires-clause-callable
+any-requires-clause-callable c =
+    let ts = c.args.tables.now in
+    serves_from_places (YieldsList-from_slice ts cc) (λ x q r. search rules)
+    (λ x k h e. let b : x.now < 64 = rw (e, get_or_default_zero ts k x.now h) (below ts c.requires.1 k) in search rules)
 
-pub overflow_cast-tables : goal.overflow_cast-tables
-overflow_cast-tables c = omega (arith, below c.args.tables.now c.requires c.loop-i.i)
-
-pub offset_bounds-counts-tables : goal.offset_bounds-counts-tables
-offset_bounds-counts-tables c = omega (arith, below c.args.tables.now c.requires c.loop-i.i)
-
-pub bounds-counts-tables : goal.bounds-counts-tables
-bounds-counts-tables c = below c.args.tables.now c.requires c.loop-i.i
-
-pub returns-then-rows-counts : goal.returns-then-rows-counts
-returns-then-rows-counts c = rw (found _ _ _ _ c.loop-i.invariant c.loop-i-test.true c.if-rows-counts.true)
-
-pub loop-i-preserved : goal.loop-i-preserved
-loop-i-preserved c = passed _ _ _ _ c.loop-i.invariant c.loop-i-test.true c.if-rows-counts.false
+pub returns-then-any : goal.returns-then-any
+returns-then-any c =
+    let a = c.args in
+    rw (size-by_any _ _ _ (any_from_yields_List (reached_at a.counts.now a.bits) _ _ _ c.any.ensures.ran (YieldsList-from_slice a.tables.now cc) (λ x b q k. search (rules, tests))), c.if-any.true)
 
 pub returns : goal.returns
-returns c = rw (none _ _ _ _ c.loop-i.invariant c.loop-i-test.false)
+returns c =
+    let a = c.args in
+    rw (size-by_any _ _ _ (any_from_yields_List (reached_at a.counts.now a.bits) _ _ _ c.any.ensures.ran (YieldsList-from_slice a.tables.now cc) (λ x b q k. search (rules, tests))), c.if-any.false)

@@ -5,4 +5,4 @@ use Rattle.layouts.proofs.coded_setting.Goals as goal
 pub returns : goal.returns
 unfolding index_sizes
 returns c = λ heap.
-    omega (arith, c.wide-3.ensures, c.wide-2.ensures, c.wide.ensures, c.custom_attribute_type_size-kind.ensures c.args.decl_security heap, c.member_ref_parent_size-parent.ensures c.args.decl_security heap, c.has_custom_attribute_size-attribute.ensures)
+    omega (arith, c.from.ensures, c.from-2.ensures, c.from-3.ensures, c.custom_attribute_type_size-kind.ensures c.args.decl_security heap, c.member_ref_parent_size-parent.ensures c.args.decl_security heap, c.has_custom_attribute_size-attribute.ensures)

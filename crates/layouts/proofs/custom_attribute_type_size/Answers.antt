@@ -4,4 +4,4 @@ use Rattle.layouts.proofs.custom_attribute_type_size.Goals as goal
 
 pub returns : goal.returns
 unfolding index_sizes
-returns c = λ decl heap. sized _ _ _ _ _ _ c.coded_index_size.ensures tt tt tt
+returns c = λ decl heap. sized _ _ _ _ c.coded_index_size.ensures tt tt

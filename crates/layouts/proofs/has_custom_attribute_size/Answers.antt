@@ -13,7 +13,7 @@ pub returns : goal.returns
 unfolding has_custom_attribute
 returns c =
     let a = c.args in
-    sized _ 5 _ _ (has_custom_attribute false) _ c.coded_index_size.ensures tt tt tt
+    sized _ 5 _ (has_custom_attribute false) c.coded_index_size.ensures tt tt
     ∙ elim c.else-decl_security.branch [
       | else-decl_security-via-then-decl_security+else-counts-ge2048 w ↦ few a.counts.now a.decl_security (lt-leb _ _ w.if-counts-ge2048.false)
       | else-decl_security-via-else-decl_security w ↦ rw w.if-decl_security.false refl

@@ -24,16 +24,16 @@ returns c =
     c.index_size-7.ensures
     c.index_size-8.ensures
     c.index_size-9.ensures
-    (sized _ _ _ _ _ _ c.coded_index_size.ensures tt tt tt)
-    (sized _ _ _ _ _ _ c.coded_index_size-2.ensures tt tt tt)
+    (sized _ _ _ _ c.coded_index_size.ensures tt tt)
+    (sized _ _ _ _ c.coded_index_size-2.ensures tt tt)
     c.has_custom_attribute_size.ensures
-    (sized _ _ _ _ _ _ c.coded_index_size-3.ensures tt tt tt)
-    (sized _ _ _ _ _ _ c.coded_index_size-4.ensures tt tt tt)
+    (sized _ _ _ _ c.coded_index_size-3.ensures tt tt)
+    (sized _ _ _ _ c.coded_index_size-4.ensures tt tt)
     (c.member_ref_parent_size.ensures false 0)
-    (sized _ _ _ _ _ _ c.coded_index_size-5.ensures tt tt tt)
-    (sized _ _ _ _ _ _ c.coded_index_size-6.ensures tt tt tt)
-    (sized _ _ _ _ _ _ c.coded_index_size-7.ensures tt tt tt)
-    (sized _ _ _ _ _ _ c.coded_index_size-8.ensures tt tt tt)
+    (sized _ _ _ _ c.coded_index_size-5.ensures tt tt)
+    (sized _ _ _ _ c.coded_index_size-6.ensures tt tt)
+    (sized _ _ _ _ c.coded_index_size-7.ensures tt tt)
+    (sized _ _ _ _ c.coded_index_size-8.ensures tt tt)
     (c.custom_attribute_type_size.ensures false 0)
-    (sized _ _ _ _ _ _ c.coded_index_size-9.ensures tt tt tt)
-    (sized _ _ _ _ _ _ c.coded_index_size-10.ensures tt tt tt)
+    (sized _ _ _ _ c.coded_index_size-9.ensures tt tt)
+    (sized _ _ _ _ c.coded_index_size-10.ensures tt tt)

@@ -6,15 +6,12 @@ use Rattle.lines.proofs.Ceiling.{all-at}
 use Rattle.listing_steps.proofs.Filling.{going_done, going-full, going_on}
 use Rattle.listing_steps.proofs.Over.{next-within}
 use Rattle.listing_steps.proofs.fill_lines.Goals as goal
-use Rattle.listing_steps.proofs.fill_lines.Goals.{then-not-all+else-counts_anew, else-not-all}
+use Rattle.listing_steps.proofs.fill_lines.Goals.{else-not-all-via-then-not-all+else-counts_anew, else-not-all-via-else-not-all}
 
 pub loop-left-init : goal.loop-left-init
 loop-left-init c =
     let pre = c.requires in
     (λ p o g. g, refl, pre.at_in_bounds, omega arith, λ h. omega arith, pre.knows, pre.next_value)
-
-pub shape_of-out-then-is_done : goal.shape_of-out-then-is_done
-shape_of-out-then-is_done c = omega (arith, c.loop-left.invariant.1)
 
 pub returns-then-is_done : goal.returns-then-is_done
 returns-then-is_done c =
@@ -25,9 +22,6 @@ returns-then-is_done c =
 
 pub overflow_sub-out : goal.overflow_sub-out
 overflow_sub-out c = omega (arith, c.loop-left.invariant.2)
-
-pub shape_of-out-then-out-at-lt-LINE_ROOM : goal.shape_of-out-then-out-at-lt-LINE_ROOM
-shape_of-out-then-out-at-lt-LINE_ROOM c = omega (arith, c.loop-left.invariant.1)
 
 -- Where there was room, a step was taken before.
 pub returns-then-out-at-lt-LINE_ROOM : goal.returns-then-out-at-lt-LINE_ROOM
@@ -47,19 +41,13 @@ next_line-on-requires c =
     let start = c.requires in
     record { laid = start.laid; by_index = start.by_index; knows = inv.5; line_room_in_bounds = omega (arith, c.if-out-at-lt-LINE_ROOM.false, inv.2); c_value = inv.6 }
 
-pub shape_of-out-then-out-end : goal.shape_of-out-then-out-end
-shape_of-out-then-out-end c = omega (arith, c.next_line-on.ensures.0.wrote.keeps.long, c.loop-left.invariant.1)
-
-pub returns-then-out-end : goal.returns-then-out-end
-returns-then-out-end c =
+pub returns-then-out-step : goal.returns-then-out-step
+returns-then-out-step c =
     let inv = c.loop-left.invariant in
     let line = c.next_line-on.ensures in (
-      record { going = λ p o g. going-full (inv.0 p o g) line.0 c.if-out-end.true; fewer = λ some room. omega (arith, some); within = λ _. inv.6 },
+      record { going = λ p o g. going-full (inv.0 p o g) line.0 c.if-out-step.true; fewer = λ some room. omega (arith, some); within = λ _. inv.6 },
       line.1,
     )
-
-pub shape_of-out-then-counts_anew : goal.shape_of-out-then-counts_anew
-shape_of-out-then-counts_anew c = omega (arith, c.next_line-on.ensures.0.wrote.keeps.long, c.loop-left.invariant.1)
 
 pub returns-then-counts_anew : goal.returns-then-counts_anew
 returns-then-counts_anew c =
@@ -67,7 +55,7 @@ returns-then-counts_anew c =
     let line = c.next_line-on.ensures in
     let more = c.loop-left-test.true in (
       record {
-        going = λ p o g. going_on (inv.0 p o g) line.0 more c.is_done.ensures c.if-is_done.false c.if-out-end.false;
+        going = λ p o g. going_on (inv.0 p o g) line.0 more c.is_done.ensures c.if-is_done.false c.if-out-step.false;
         fewer = λ some room. omega (arith, more, inv.3);
         within = λ e. absurd (subst T (sym e) tt);
       },
@@ -79,21 +67,18 @@ loop-left-preserved c =
     let inv = c.loop-left.invariant in
     let line = c.next_line-on.ensures in
     let more = c.loop-left-test.true in
-    let fits = c.if-out-end.false in (
+    let fits = c.if-out-step.false in (
       λ p o g. going_on (inv.0 p o g) line.0 more c.is_done.ensures c.if-is_done.false fits,
       line.0.wrote.keeps.long ∙ inv.1,
       omega (arith, fits),
       omega (arith, more, inv.3),
       λ h. absurd (omega (arith, more, inv.3, h)),
       line.1,
-      elim c.if-not-all.branch [
-        | then-not-all+else-counts_anew w ↦ next-within _ _ line.0 inv.6 w.counts_anew.ensures w.if-counts_anew.false
-        | else-not-all w ↦ all-at _ (c.requires.all_fit w.if-not-all.false) _
+      elim c.else-not-all.branch [
+        | else-not-all-via-then-not-all+else-counts_anew w ↦ next-within _ _ line.0 inv.6 w.counts_anew.ensures w.if-counts_anew.false
+        | else-not-all-via-else-not-all w ↦ all-at _ (c.requires.all_fit w.if-not-all.false) _
       ],
     )
-
-pub shape_of-out : goal.shape_of-out
-shape_of-out c = omega (arith, c.loop-left.invariant.1)
 
 pub returns : goal.returns
 returns c =

@@ -11,14 +11,6 @@ loop-r-init c =
 pub overflow_sub-out : goal.overflow_sub-out
 overflow_sub-out c = omega (arith, going-inside c.loop-r.invariant.0)
 
-pub shape_of-out-then-out-step-lt-LINE_ROOM : goal.shape_of-out-then-out-step-lt-LINE_ROOM
-shape_of-out-then-out-step-lt-LINE_ROOM c = omega (arith, c.loop-r.invariant.0.wrote.keeps.long)
-
-pub returns-then-out-step-lt-LINE_ROOM : goal.returns-then-out-step-lt-LINE_ROOM
-returns-then-out-step-lt-LINE_ROOM c =
-    let inv = c.loop-r.invariant in
-    (record { going = inv.0; room = λ h. omega (arith, c.if-out-step-lt-LINE_ROOM.true, going-inside inv.0, inv.0.wrote.keeps.long); within = inv.2 }, inv.1)
-
 pub fill_some-r-requires : goal.fill_some-r-requires
 fill_some-r-requires c =
     let inv = c.loop-r.invariant in
@@ -28,18 +20,10 @@ fill_some-r-requires c =
 pub loop-r-smaller : goal.loop-r-smaller
 loop-r-smaller c =
     let inv = c.loop-r.invariant in
-    c.fill_some-r.ensures.0.fewer c.loop-r-test.true (omega (arith, c.if-out-step-lt-LINE_ROOM.false, going-inside inv.0))
+    c.fill_some-r.ensures.0.fewer c.loop-r-test.true (omega (arith, c.if-out-r-ge-LINE_ROOM.true, going-inside inv.0))
 
 pub loop-r-preserved : goal.loop-r-preserved
 loop-r-preserved c =
     let inv = c.loop-r.invariant in
     let some = c.fill_some-r.ensures in
     (some.0.going _ _ inv.0, some.1, some.0.within)
-
-pub shape_of-out : goal.shape_of-out
-shape_of-out c = omega (arith, c.loop-r.invariant.0.wrote.keeps.long)
-
-pub returns : goal.returns
-returns c =
-    let inv = c.loop-r.invariant in
-    (record { going = inv.0; room = λ h. absurd (omega (arith, h, c.loop-r-test.false)); within = inv.2 }, inv.1)

@@ -4,9 +4,9 @@ use Rattle.bundle.proofs.Input.{streams-within}
 use Rattle.listing_steps.proofs.Filling.{input-malformed, input-streams}
 use Rattle.listing_text.proofs.fill_input.Goals as goal
 
-pub returns-in-Streams : goal.returns-in-Streams
-returns-in-Streams c =
-    let is = sym c.in-Streams.is ∙ c.open_bundle.ensures.1 in
+pub returns : goal.returns
+returns c =
+    let is = sym c.in-Some.is ∙ c.open_bundle.ensures.1 in
     let in-input = streams-within _ is in
     let filled = c.fill.ensures in (
       input-streams _ _ _ is
@@ -17,7 +17,7 @@ returns-in-Streams c =
       filled.1,
     )
 
-pub returns-in-Malformed : goal.returns-in-Malformed
-returns-in-Malformed c =
-    let is = sym c.in-Malformed.is ∙ c.open_bundle.ensures.1 in
+pub returns-in_default : goal.returns-in_default
+returns-in_default c =
+    let is = sym c.in_default.is ∙ c.open_bundle.ensures.1 in
     (c.end_piece.ensures _ _ (input-malformed _ _ _ is c.push_refused-s.ensures), c.clear_words.ensures)

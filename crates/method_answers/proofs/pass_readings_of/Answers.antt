@@ -7,13 +7,13 @@ use Rattle.method_answers.proofs.Laws.{method-takes, no-method-takes}
 use Rattle.method_answers.proofs.pass_readings_of.Goals as goal
 
 pub pass_readings-requires : goal.pass_readings-requires
-pass_readings-requires c = record { laid = c.requires; m_bound = omega (arith, c.row_inside.ensures.0 _ c.in-Row.is, same_rows c.requires columns.method_name columns.method_signature (omega arith) (omega arith) refl) }
+pass_readings-requires c = record { laid = c.requires; m_bound = omega (arith, c.row_inside.ensures.0 _ c.in-Some.is, same_rows c.requires columns.method_name columns.method_signature (omega arith) (omega arith) refl) }
 
-pub returns-in-Row : goal.returns-in-Row
-returns-in-Row c = λ m h.
+pub returns : goal.returns
+returns c = λ m h.
     let is = c.row_inside.ensures.1 _ _ _ c.requires _ _ h in
-    method-takes _ _ m (method-found is c.in-Row.is).0 (method-place is c.in-Row.is) c.pass_readings.ensures
+    method-takes _ _ m (method-found is c.in-Some.is).0 (method-place is c.in-Some.is) c.pass_readings.ensures
 
-pub returns-in-NoRow : goal.returns-in-NoRow
-returns-in-NoRow c = λ m h.
-    no-method-takes _ _ m (method-missed (c.row_inside.ensures.1 _ _ _ c.requires _ _ h) c.in-NoRow.is) _
+pub returns-in_default : goal.returns-in_default
+returns-in_default c = λ m h.
+    no-method-takes _ _ m (method-missed (c.row_inside.ensures.1 _ _ _ c.requires _ _ h) c.in_default.is) _

@@ -7,10 +7,10 @@ use Rattle.places.proofs.Values.{method-parameter-name, no-method-parameter-name
 use Rattle.method_answers.proofs.tell_param_name_of.Goals as goal
 
 pub tell_param_name-requires : goal.tell_param_name-requires
-tell_param_name-requires c = record { laid = c.requires.laid; m_bound = omega (arith, c.row_inside.ensures.0 _ c.in-Row.is, same_rows c.requires.laid columns.method_name columns.method_signature (omega arith) (omega arith) refl); knows_signature = c.requires.knows_signature }
+tell_param_name-requires c = record { laid = c.requires.laid; m_bound = omega (arith, c.row_inside.ensures.0 _ c.in-Some.is, same_rows c.requires.laid columns.method_name columns.method_signature (omega arith) (omega arith) refl); knows_signature = c.requires.knows_signature }
 
-pub returns-in-Row : goal.returns-in-Row
-returns-in-Row c = (λ m h. method-parameter-name c.requires.laid _ _ _ m (method-found (c.row_inside.ensures.1 _ _ _ c.requires.laid _ _ h) c.in-Row.is) _ c.tell_param_name.ensures.0, c.tell_param_name.ensures.1)
+pub returns : goal.returns
+returns c = (λ m h. method-parameter-name c.requires.laid _ _ _ m (method-found (c.row_inside.ensures.1 _ _ _ c.requires.laid _ _ h) c.in-Some.is) _ c.tell_param_name.ensures.0, c.tell_param_name.ensures.1)
 
-pub returns-in-NoRow : goal.returns-in-NoRow
-returns-in-NoRow c = (λ m h. no-method-parameter-name c.requires.laid _ _ _ m (method-missed (c.row_inside.ensures.1 _ _ _ c.requires.laid _ _ h) c.in-NoRow.is) _ _ _, c.requires.knows_signature)
+pub returns-in_default : goal.returns-in_default
+returns-in_default c = (λ m h. no-method-parameter-name c.requires.laid _ _ _ m (method-missed (c.row_inside.ensures.1 _ _ _ c.requires.laid _ _ h) c.in_default.is) _ _ _, c.requires.knows_signature)

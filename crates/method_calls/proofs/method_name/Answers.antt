@@ -4,4 +4,4 @@ use Rattle.record.proofs.Allowance.{named-free}
 use Rattle.method_calls.proofs.method_name.Goals as goal
 
 pub returns : goal.returns
-returns c = named-free 0 (value 0) refl c.ask_name-asked.ensures
+returns c = named-free 0 (value 0) refl c.ask_name.ensures

@@ -1,5 +1,4 @@
 use mathlib.Core.Path.{refl}
-use Prim.Native.Nat.{◌-◌}
 use native.Mathlib.Omega.{arith}
 use Rattle.rows.specs.Layout.{view_in}
 use Rattle.method_signatures.proofs.Laws.{read_next, read-by-none, others-on, reads_on, alone-reads}
@@ -14,19 +13,16 @@ returns-then-alone c =
     let l = c.loop-reader in
     let a = c.args in
     let v = view_in a.tables.now a.layout.now a.strings.now a.blob.now in
-    let next = c.next_in_mode.ensures a.strings.now a.blob.now in
-    let is = read_next v a.m next c.in-By.is in
-    let alone = alone-reads c.requires.laid _ _ a.m (c.is_read_once-alone.ensures _ _ _) next c.in-By.is c.if-alone.true in
+    let next = c.in-Some.ensures a.strings.now a.blob.now in
+    let alone = alone-reads c.requires.laid _ _ a.m (c.is_read_once-alone.ensures _ _ _) next c.if-alone.true in
     takes-in v a.taker.0 a.m (c.first_reader-class.ensures a.strings.now a.blob.now)
-    (pay-end v a.m (pay-more v a.m l.invariant is c.pass_by.ensures c.in-Left.is alone) refl)
+    (pay-end v a.m (pay-more v a.m l.invariant (read_next v a.m next) c.pass_by.ensures c.in_ok-have.was alone) refl)
 
 pub loop-reader-smaller : goal.loop-reader-smaller
 loop-reader-smaller c =
-    let l = c.loop-reader in
     let a = c.args in
-    let v = view_in a.tables.now a.layout.now a.strings.now a.blob.now in
-    let next = c.next_in_mode.ensures a.strings.now a.blob.now in
-    let on = reads_on c.requires.laid _ _ a.m (c.is_read_once-alone.ensures _ _ _) next c.in-By.is c.if-alone.false in
+    let next = c.in-Some.ensures a.strings.now a.blob.now in
+    let on = reads_on c.requires.laid _ _ a.m (c.is_read_once-alone.ensures _ _ _) next c.if-alone.false in
     omega (arith, on.0, on.1)
 
 pub loop-reader-preserved : goal.loop-reader-preserved
@@ -34,25 +30,23 @@ loop-reader-preserved c =
     let l = c.loop-reader in
     let a = c.args in
     let v = view_in a.tables.now a.layout.now a.strings.now a.blob.now in
-    let next = c.next_in_mode.ensures a.strings.now a.blob.now in
-    let is = read_next v a.m next c.in-By.is in
+    let next = c.in-Some.ensures a.strings.now a.blob.now in
     let on = others-on c.requires.laid _ _ a.m (c.is_read_once-alone.ensures _ _ _) c.if-alone.false _ in
-    pay-more v a.m l.invariant is c.pass_by.ensures c.in-Left.is on
+    pay-more v a.m l.invariant (read_next v a.m next) c.pass_by.ensures c.in_ok-have.was on
 
-pub returns-in-Spent : goal.returns-in-Spent
-returns-in-Spent c =
+pub returns-in_err-have : goal.returns-in_err-have
+returns-in_err-have c =
     let l = c.loop-reader in
     let a = c.args in
     let v = view_in a.tables.now a.layout.now a.strings.now a.blob.now in
-    let next = c.next_in_mode.ensures a.strings.now a.blob.now in
-    let is = read_next v a.m next c.in-By.is in
-    takes-in v a.taker.0 a.m (c.first_reader-class.ensures a.strings.now a.blob.now)
-    (pay-spent v a.m l.invariant is c.pass_by.ensures c.in-Spent.is)
+    let next = c.in-Some.ensures a.strings.now a.blob.now in
+    rw c.from_residual.ensures (takes-in v a.taker.0 a.m (c.first_reader-class.ensures a.strings.now a.blob.now)
+    (pay-spent v a.m l.invariant (read_next v a.m next) c.pass_by.ensures c.in_err-have.was))
 
-pub returns-in-Nobody : goal.returns-in-Nobody
-returns-in-Nobody c =
+pub returns : goal.returns
+returns c =
     let l = c.loop-reader in
     let a = c.args in
     let v = view_in a.tables.now a.layout.now a.strings.now a.blob.now in
-    let is = read-by-none v a.m (c.next_in_mode.ensures a.strings.now a.blob.now) c.in-Nobody.is in
+    let is = read-by-none v a.m (c.in_default.ensures a.strings.now a.blob.now) in
     takes-in v a.taker.0 a.m (c.first_reader-class.ensures a.strings.now a.blob.now) (pay-end v a.m l.invariant is)

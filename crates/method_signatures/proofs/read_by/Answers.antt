@@ -1,33 +1,35 @@
-use native.Mathlib.Omega.{arith}
-use Rattle.rows.specs.Columns as columns
 use Rattle.numbers.proofs.Parts.{cut-is}
-use Rattle.rows.proofs.Laws.{rows-narrow}
 use Rattle.method_signatures.proofs.Laws.{no-blob, no_start, no-type, signature-there, inside}
+use mathlib.Core.Path.{sym, ◌∙◌}
+use Rattle.method_signatures.proofs.Laws.{value-there, value-gone}
 use Rattle.method_signatures.proofs.read_by.Goals as goal
 
-pub overflow_add-m : goal.overflow_add-m
-overflow_add-m c = record { fits = omega (arith, c.requires.m_bound, rows-narrow c.requires.laid columns.method_signature (omega arith)) }
+pub returns-in_err-start : goal.returns-in_err-start
+returns-in_err-start c =
+    rw c.from_residual.ensures (value-gone c.get_blob.result (sym c.ok.ensures.value ∙ c.in_err-start.was)
+    (λ why e. no-blob c.requires.laid _ _ _ _ c.requires.m_bound c.read_column-index.ensures c.get_blob.ensures _ _ e))
 
-pub overflow_mul-m : goal.overflow_mul-m
-overflow_mul-m c = record { fits = omega (arith, c.requires.m_bound, rows-narrow c.requires.laid columns.method_signature (omega arith)) }
+pub returns-in_err-count : goal.returns-in_err-count
+returns-in_err-count c =
+    let blob = value-there _ (sym c.ok.ensures.value ∙ c.in_ok-start.was) in
+    let there = inside c.requires.laid c.args.strings.now c.args.blob.now c.args.m c.args.class.0 c.requires.m_bound c.read_column-index.ensures c.get_blob.ensures blob in
+    rw c.from_residual-in_err-count.ensures (value-gone c.read_method_start.result (sym c.ok-2.ensures.value ∙ c.in_err-count.was)
+    (λ next e. no_start c.requires.laid _ _ _ _ c.requires.m_bound c.read_column-index.ensures c.get_blob.ensures blob
+    (cut-is _ _ _ _ there c.cut-sig.ensures).bytes _ c.read_method_start.ensures _ _ e))
 
-pub overflow_add-m-in-Number : goal.overflow_add-m-in-Number
-overflow_add-m-in-Number c = record { fits = omega (arith, c.requires.m_bound, rows-narrow c.requires.laid columns.method_signature (omega arith)) }
+pub returns-in_err-end : goal.returns-in_err-end
+returns-in_err-end c =
+    let blob = value-there _ (sym c.ok.ensures.value ∙ c.in_ok-start.was) in
+    let there = inside c.requires.laid c.args.strings.now c.args.blob.now c.args.m c.args.class.0 c.requires.m_bound c.read_column-index.ensures c.get_blob.ensures blob in
+    rw c.from_residual-in_err-end.ensures (value-gone c.parse_sig_type.result (sym c.ok-3.ensures.value ∙ c.in_err-end.was)
+    (λ next e. no-type c.requires.laid _ _ _ _ c.requires.m_bound c.read_column-index.ensures c.get_blob.ensures blob
+    (cut-is _ _ _ _ there c.cut-sig.ensures).bytes _ c.read_method_start.ensures (value-there _ (sym c.ok-2.ensures.value ∙ c.in_ok-count.was))
+    c.owner_of-owner.ensures c.parse_sig_type.ensures e))
 
-pub returns-in-Done : goal.returns-in-Done
-returns-in-Done c =
-    let there = inside c.requires.laid c.args.strings.now c.args.blob.now c.args.m c.args.class.0 c.requires.m_bound c.read_column-index.ensures c.get_blob.ensures c.in-Found.is in
-    signature-there c.requires.laid _ _ _ _ c.requires.m_bound c.read_column-index.ensures c.get_blob.ensures c.in-Found.is (cut-is _ _ _ _ there c.cut-sig.ensures).bytes _ c.read_method_start.ensures c.in-Number.is c.owner_of-owner.ensures c.parse_sig_type.ensures c.in-Done.is
-
-pub returns-in-Failed : goal.returns-in-Failed
-returns-in-Failed c =
-    let there = inside c.requires.laid c.args.strings.now c.args.blob.now c.args.m c.args.class.0 c.requires.m_bound c.read_column-index.ensures c.get_blob.ensures c.in-Found.is in
-    no-type c.requires.laid _ _ _ _ c.requires.m_bound c.read_column-index.ensures c.get_blob.ensures c.in-Found.is (cut-is _ _ _ _ there c.cut-sig.ensures).bytes _ c.read_method_start.ensures c.in-Number.is c.owner_of-owner.ensures c.parse_sig_type.ensures c.in-Failed.is
-
-pub returns-in-NoNumber : goal.returns-in-NoNumber
-returns-in-NoNumber c =
-    let there = inside c.requires.laid c.args.strings.now c.args.blob.now c.args.m c.args.class.0 c.requires.m_bound c.read_column-index.ensures c.get_blob.ensures c.in-Found.is in
-    no_start c.requires.laid _ _ _ _ c.requires.m_bound c.read_column-index.ensures c.get_blob.ensures c.in-Found.is (cut-is _ _ _ _ there c.cut-sig.ensures).bytes _ c.read_method_start.ensures _ _ c.in-NoNumber.is
-
-pub returns-in-Absent : goal.returns-in-Absent
-returns-in-Absent c = no-blob c.requires.laid _ _ _ _ c.requires.m_bound c.read_column-index.ensures c.get_blob.ensures _ _ c.in-Absent.is
+pub returns : goal.returns
+returns c =
+    let blob = value-there _ (sym c.ok.ensures.value ∙ c.in_ok-start.was) in
+    let there = inside c.requires.laid c.args.strings.now c.args.blob.now c.args.m c.args.class.0 c.requires.m_bound c.read_column-index.ensures c.get_blob.ensures blob in
+    signature-there c.requires.laid _ _ _ _ c.requires.m_bound c.read_column-index.ensures c.get_blob.ensures blob (cut-is _ _ _ _ there c.cut-sig.ensures).bytes _
+    c.read_method_start.ensures (value-there _ (sym c.ok-2.ensures.value ∙ c.in_ok-count.was)) c.owner_of-owner.ensures c.parse_sig_type.ensures
+    (value-there _ (sym c.ok-3.ensures.value ∙ c.in_ok-end.was))

@@ -1,6 +1,5 @@
 use mathlib.Core.Path.{◌≡◌}
-use Prim.Native.Nat.{◌-◌, ◌≤◌}
-use lib.ListN.{length}
+use Prim.Native.Nat.{◌-◌}
 use Rattle.record.specs.Names.{levels}
 use Rattle.record.specs.Types.{type}
 use Rattle.signatures.specs.Environment.{env_in}
@@ -8,7 +7,6 @@ use Rattle.method_signatures.specs.Signatures.{behind}
 use Rattle.method_signatures.proofs.skip_types.Given as goal
 
 abbrev pub invariant-loop-i : goal.invariant-loop-i
-invariant-loop-i l = (l.i ≤ l.count) × (length l.buf ≡ length l.initial.buf) × (behind (type (env_in l.tables l.layout l.strings l.blob l.class l.method) levels) (l.count - l.i) l.sig l.p ≡ behind (type (env_in l.tables l.layout l.strings l.blob l.class l.method) levels) l.count l.sig l.pos)
-
-abbrev pub decreases-loop-i : goal.decreases-loop-i
-decreases-loop-i l = l.count - l.i
+invariant-loop-i l =
+    let type = type (env_in l.tables l.layout l.strings l.blob l.class l.method) levels in
+    behind type (l.count - l._i) l.sig l.p ≡ behind type l.count l.sig l.pos

@@ -9,16 +9,16 @@ returns-then-known c =
     let k = c.requires.knows_signature in
     (told-past _ _ _ _ _ _ k.0 k.1 k.2 _ _ c.if-known.true, k.0)
 
-pub returns-in-Done : goal.returns-in-Done
+pub returns-in-Ok : goal.returns-in-Ok
 unfolding env_in
-returns-in-Done c =
+returns-in-Ok c =
     let k = c.requires.knows_signature in
     let is = (cut-is _ _ _ _ (part-inside _ _ _ _ _ _ k.0 k.1 k.2) c.cut-sig.ensures).bytes in
-    told-type _ _ _ _ _ _ k.0 k.1 k.2 (omega (arith, c.if-known.false)) is c.parse_sig_type.ensures c.in-Done.is c.read_more.ensures
+    told-type _ _ _ _ _ _ k.0 k.1 k.2 (omega (arith, c.if-known.false)) is c.parse_sig_type.ensures c.in-Ok.is c.read_more.ensures
 
-pub returns-in-Failed : goal.returns-in-Failed
+pub returns-in-Err : goal.returns-in-Err
 unfolding env_in
-returns-in-Failed c =
+returns-in-Err c =
     let k = c.requires.knows_signature in
     let is = (cut-is _ _ _ _ (part-inside _ _ _ _ _ _ k.0 k.1 k.2) c.cut-sig.ensures).bytes in
-    told-no-type _ _ _ _ _ _ k.0 k.1 k.2 (omega (arith, c.if-known.false)) is c.parse_sig_type.ensures c.in-Failed.is c.read_more-in-Failed.ensures
+    told-no-type _ _ _ _ _ _ k.0 k.1 k.2 (omega (arith, c.if-known.false)) is c.parse_sig_type.ensures c.in-Err.is c.read_more-in-Err.ensures

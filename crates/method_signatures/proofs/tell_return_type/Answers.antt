@@ -3,17 +3,10 @@ use Rattle.method_signatures.proofs.Values.{made, told-return, no_return}
 use Rattle.method_signatures.proofs.Known.{knows-first}
 use Rattle.method_signatures.proofs.tell_return_type.Goals as goal
 
-pub key_of-requires : goal.key_of-requires
-key_of-requires c = method-narrow c.requires.laid c.args.m c.requires.m_bound
+pub returns-in_default : goal.returns-in_default
+returns-in_default c = (no_return _ c.in_default.ensures, c.unread_signature-signature.ensures.0 _ _ (reading-missed c.in_default.ensures).0)
 
-pub unread_signature-signature-requires : goal.unread_signature-signature-requires
-unread_signature-signature-requires c = method-narrow c.requires.laid c.args.m c.requires.m_bound
-
-pub returns-in-Read : goal.returns-in-Read
-returns-in-Read c =
-    let k = made c.read_signature.ensures c.in-Read.is in
-    let narrow = method-narrow c.requires.laid c.args.m c.requires.m_bound in
-    (told-return k, knows-first _ _ _ _ k narrow c.key_of.ensures c.wide.ensures.0)
-
-pub returns-in-Missing : goal.returns-in-Missing
-returns-in-Missing c = (no_return _ c.read_signature.ensures c.in-Missing.is, c.unread_signature-signature.ensures.0 _ _ (reading-missed c.read_signature.ensures c.in-Missing.is).0)
+pub returns : goal.returns
+returns c =
+    let k = made c.in-Some.ensures in
+    (told-return k, rw c.known_behind.ensures (knows-first _ _ _ _ k (method-narrow c.requires.laid c.args.m c.requires.m_bound)))

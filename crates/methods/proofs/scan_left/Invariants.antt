@@ -2,12 +2,8 @@ use mathlib.Core.Path.{◌≡◌}
 use mathlib.Core.List.{List}
 use Prim.Native.Nat.{ℕ, ◌-◌, ◌≤◌}
 use Rattle.record.specs.Methods.{left_after}
-use Rattle.rows.specs.Columns as columns
-use Rattle.rows.specs.Layout.{rows_at, view_in}
+use Rattle.rows.specs.Layout.{view_in}
 use Rattle.methods.proofs.scan_left.Given as goal
 
 abbrev pub invariant-loop-r : goal.invariant-loop-r
-invariant-loop-r l = (l.row ≤ l.r) × (l.r ≤ rows_at l.layout columns.method_list) × ((strings blob : List ℕ) → l.left ≡ left_after (view_in l.tables l.layout strings blob) (l.r - 1))
-
-abbrev pub decreases-loop-r : goal.decreases-loop-r
-decreases-loop-r l = l.r
+invariant-loop-r l = (l.row ≤ l.r) × ((strings blob : List ℕ) → l.left ≡ left_after (view_in l.tables l.layout strings blob) (l.r - 1))

@@ -1,6 +1,5 @@
 use mathlib.Core.Path.{refl, ◌∙◌}
 use mathlib.Core.List.{[]}
-use Prim.Native.Nat.{◌-◌}
 use native.Mathlib.Omega.{arith}
 use lib.ListN.{length-set}
 use Rattle.name_section.proofs.Filling.{fill_start, fill-turn, fill-far, fill-over, fill_done, unfit, number_small, names-counted, name_of}
@@ -15,11 +14,11 @@ returns-then-offsets-classes c = λ blob.
 pub loop-c-init : goal.loop-c-init
 loop-c-init c = (refl, refl, λ blob. fill_start _ _ _)
 
-pub returns-then-begin-gt-MOST_OFFSET : goal.returns-then-begin-gt-MOST_OFFSET
-returns-then-begin-gt-MOST_OFFSET c = λ blob.
+pub returns-in_default : goal.returns-in_default
+returns-in_default c = λ blob.
     let l = c.loop-c in
     let count = names-counted c.requires c.count_classes-classes.ensures c.args.strings.now blob in
-    unfit l.invariant.0 l.invariant.1 (fill-far (l.invariant.2 blob) (omega (arith, count, c.loop-c-test.true)) c.if-begin-gt-MOST_OFFSET.true) c.refuse-then-begin-gt-MOST_OFFSET.ensures
+    unfit l.invariant.0 l.invariant.1 (fill-far (l.invariant.2 blob) (omega (arith, count, c.loop-c-test.true)) (omega (arith, c.in_default.ensures))) c.refuse-in_default.ensures
 
 pub overflow_cast-c : goal.overflow_cast-c
 overflow_cast-c c = omega (arith, number_small c.requires c.count_classes-classes.ensures _ c.loop-c-test.true)
@@ -43,11 +42,12 @@ loop-c-preserved c =
     let count = c.count_classes-classes.ensures in
     let slot = c.push_slot-at.ensures in (
       (slot []).keeps.long ∙ l.invariant.0,
-      length-set l.offsets l.c l.at ∙ l.invariant.1,
+      length-set l.offsets l.c c.in-Ok.offset ∙ l.invariant.1,
       λ blob.
           let all = names-counted c.requires count c.args.strings.now blob in
           let is = name_of c.requires count c.args.strings.now blob _ less in
-          fill-turn (l.invariant.2 blob) (omega (arith, all, less)) is (slot blob) (omega (arith, l.invariant.1)) c.if-begin-gt-MOST_OFFSET.false c.if-section-at.false,
+          let fits = c.in-Ok.ensures in
+          rw fits.1 (fill-turn (l.invariant.2 blob) (omega (arith, all, less)) is (slot blob) (omega (arith, l.invariant.1)) (omega (arith, fits.0)) c.if-section-at.false),
     )
 
 pub returns : goal.returns

@@ -1,6 +1,6 @@
 use mathlib.Core.Path.{◌≡◌}
 use mathlib.Core.List.{List}
-use Prim.Native.Nat.{ℕ, ◌-◌}
+use Prim.Native.Nat.{ℕ}
 use lib.ListN.{length}
 use Rattle.record.specs.Record.{class_record}
 use Rattle.rows.specs.Layout.{view_in}
@@ -12,6 +12,3 @@ abbrev pub invariant-loop-c : goal.invariant-loop-c
 invariant-loop-c l = (length l.section ≡ length l.initial.section)
     × (length l.offsets ≡ length l.initial.offsets)
     × ((blob : List ℕ) → Filling (names_of (class_record (view_in l.tables l.layout l.strings blob))) l.initial.section l.initial.offsets l.section l.offsets l.c l.at)
-
-abbrev pub decreases-loop-c : goal.decreases-loop-c
-decreases-loop-c l = l.classes - l.c

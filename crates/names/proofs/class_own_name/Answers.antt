@@ -1,11 +1,16 @@
+use mathlib.Core.Path.{◌≡◌, refl}
+use borrow.Author.Rules.{rules}
+use Rattle.std.specs.Prelude.{None}
 use Rattle.names.proofs.Leaves.{shown-at, own_at, own-missing}
 use Rattle.names.proofs.class_own_name.Goals as goal
 
-pub name_length-requires : goal.name_length-requires
-name_length-requires c = (shown-at c.class_string.ensures c.in-At.is).1
+pub name_length-len-requires : goal.name_length-len-requires
+name_length-len-requires c = (shown-at c.in_ok-name.ensures refl).1
 
-pub returns-in-At : goal.returns-in-At
-returns-in-At c = own_at _ _ _ _ c.class_string.ensures c.in-At.is c.name_length.ensures
+pub returns-in_err-name : goal.returns-in_err-name
+returns-in_err-name c =
+    let e : c.from_residual.result ≡ None = search rules in
+    rw e (own-missing _ _ _ _ c.in_err-name.ensures refl)
 
-pub returns-in-Missing : goal.returns-in-Missing
-returns-in-Missing c = own-missing _ _ _ _ c.class_string.ensures c.in-Missing.is
+pub returns : goal.returns
+returns c = own_at _ _ _ _ c.in_ok-name.ensures refl c.name_length-len.ensures

@@ -1,4 +1,4 @@
-use mathlib.Core.Path.{refl, sym, ◌∙◌}
+use mathlib.Core.Path.{sym, ◌∙◌}
 use Prim.Native.Nat.{◌-◌}
 use lib.ListN.{length}
 use lib.Seq.{length-take-le}
@@ -22,27 +22,21 @@ loop-i-init c =
     let room = length memory - c.count_rows-n.result in
     let zeros = c.clear_words.ensures in
     let long = front_length memory room (omega arith) zeros in
-    (nest-start _ _ _ _ (λ k h. front-zero memory room (omega arith) zeros k (omega (arith, long, rows))), rows, omega (arith, long), refl)
+    nest-start _ _ _ _ (λ k h. front-zero memory room (omega arith) zeros k (omega (arith, long, rows)))
 
 pub read_column-requires-in-loop-i : goal.read_column-requires-in-loop-i
-read_column-requires-in-loop-i c = record { laid = c.requires; column_lt_count = (omega arith, omega (arith, same-enclosing c.requires)) }
+read_column-requires-in-loop-i c = record { laid = c.requires; column_lt_count = (omega arith, omega (arith, c.count_rows-n.ensures, same-enclosing c.requires)) }
 
 pub nest_row-requires : goal.nest_row-requires
-nest_row-requires c = (omega arith, omega (arith, rows-narrow c.requires columns.nested (omega arith)))
+nest_row-requires c = (
+  omega (arith, c.loop-i.auto.memory, front_length c.args.memory.now (length c.args.memory.now - c.count_rows-n.result) (omega arith) c.clear_words.ensures),
+  omega (arith, c.count_rows-n.ensures, rows-narrow c.requires columns.nested (omega arith)),
+)
 
 pub loop-i-preserved : goal.loop-i-preserved
-loop-i-preserved c =
-    let l = c.loop-i in (
-      c.nest_row.ensures _ _ _ (omega arith) (omega arith) (c.wide-nested.ensures.0 ∙ c.read_column.ensures) (c.wide-enclosing.ensures.0 ∙ c.read_column-in-loop-i.ensures) l.invariant.0,
-      l.invariant.1,
-      l.invariant.2 ∙ sym c.memory-in-loop-i-1.given,
-      c.memory-in-loop-i-1.given ∙ l.invariant.3,
-    )
-
-pub shape_of-memory : goal.shape_of-memory
-shape_of-memory c =
-    let memory = c.args.memory.now in
-    c.loop-i.invariant.3 ∙ front_length memory (length memory - c.count_rows-n.result) (omega arith) c.clear_words.ensures
+loop-i-preserved c = c.nest_row.ensures _ _ _ (omega (arith, c.count_rows-n.ensures))
+    (omega (arith, c.count_rows-n.ensures, c.loop-i.auto.memory, front_length c.args.memory.now (length c.args.memory.now - c.count_rows-n.result) (omega arith) c.clear_words.ensures))
+    (c.wide-nested.ensures.0 ∙ c.read_column.ensures) (c.wide-enclosing.ensures.0 ∙ c.read_column-in-loop-i.ensures) c.loop-i.invariant
 
 pub returns : goal.returns
-returns c = nest-end _ _ _ _ c.loop-i.i (omega arith) c.loop-i.invariant.0
+returns c = nest-end _ _ _ _ c.loop-i.i (omega (arith, c.count_rows-n.ensures)) c.loop-i.invariant

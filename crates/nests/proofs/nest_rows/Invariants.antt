@@ -1,13 +1,7 @@
-use mathlib.Core.Path.{◌≡◌}
-use Prim.Native.Nat.{◌+◌, ◌-◌}
-use lib.ListN.{length}
 use Rattle.rows.specs.Columns as columns
 use Rattle.rows.specs.Layout.{rows_at, cell}
 use Rattle.nests.specs.Nests.{Nesting}
 use Rattle.nests.proofs.nest_rows.Given as goal
 
 abbrev pub invariant-loop-i : goal.invariant-loop-i
-invariant-loop-i l = Nesting (cell l.tables l.layout columns.nested) (cell l.tables l.layout columns.enclosing) (rows_at l.layout columns.nested) l.i l.memory × (l.n ≡ rows_at l.layout columns.nested) × (l.room + l.n ≡ length l.memory) × (length l.memory ≡ length l.initial.memory)
-
-abbrev pub decreases-loop-i : goal.decreases-loop-i
-decreases-loop-i l = l.n - l.i
+invariant-loop-i l = Nesting (cell l.tables l.layout columns.nested) (cell l.tables l.layout columns.enclosing) (rows_at l.layout columns.nested) l.i l.memory

@@ -1,10 +1,8 @@
 use borrow.Author.Rules.{rules}
 use mathlib.Core.Path.{refl, sym, ap, ◌∙◌}
-use Prim.Native.Nat.{◌-◌}
 use native.Mathlib.Omega.{arith}
 use lib.ListN.{length, get_or, length-set}
-use Rattle.header.specs.declared.Header.{Header}
-use Rattle.header.specs.declared.Opened.TheVariants.{Ready}
+use Rattle.header.specs.Stream.{Opening}
 use Rattle.layouts.specs.Read.{read_columns, read_column, offset_in, bytes_in}
 use Rattle.layouts.proofs.Facts.{size-pos}
 use Rattle.tables.specs.Extents.{walk_by}
@@ -13,8 +11,9 @@ use Rattle.rows.specs.Columns as columns
 use Rattle.rows.specs.Layout.{layout_of}
 use Rattle.opening.proofs.Starts.{start-within}
 use Rattle.opening.proofs.Filling.{empty, turn, read_at, kind-below, first-is, low-is, high_is, step_is, width_is, kept-is}
-use Rattle.opening.proofs.Laying.{layout-at, whole}
+use Rattle.opening.proofs.Laying.{layout-at, whole, bit_is}
 use Rattle.opening.proofs.lay.Goals as goal
+use Rattle.std.specs.Prelude.{Ok}
 
 pub walk_tables-walk-requires : goal.walk_tables-walk-requires
 walk_tables-walk-requires c = record { first_le_len = c.requires.first_le_len.0; by_index = λ k h. rw c.index_sizes-sizes.ensures (size-pos _ _ _ k h) }
@@ -81,7 +80,7 @@ loop-c-preserved c =
     let e = c.walk_tables-walk.ensures ∙ same-walk w _ _ _ in
     let a = c.args in
     let o = a.options in
-    let h : Header = record { answer = Ready; heap = a.heap; first = a.first; counts = a.counts.now } in
+    let h : Opening = record { answer = (Ok tt); heap = a.heap; first = a.first; counts = a.counts.now } in
     let n = a.len in
     let all = layout_of o h n in
     let at = layout-at o h n in
@@ -99,4 +98,4 @@ pub shape_of-layout : goal.shape_of-layout
 shape_of-layout c = simp length-set (c.loop-c.invariant.1.long ∙ sym (ap length c.requires.layout_value))
 
 pub returns : goal.returns
-returns c = (whole _ _ _ c.loop-c.invariant.1 c.loop-c.invariant.0 c.loop-c-test.false refl c.flag.ensures c.flag-2.ensures, search rules)
+returns c = (whole _ _ _ c.loop-c.invariant.1 c.loop-c.invariant.0 c.loop-c-test.false refl (c.from.ensures ∙ bit_is _) (c.from-2.ensures ∙ bit_is _), search rules)

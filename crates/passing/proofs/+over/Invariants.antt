@@ -4,8 +4,7 @@ use Prim.Native.Nat.{ℕ, ◌+◌, ◌-◌, ◌≤◌, ◌*◌, ◌^◌}
 use mathlib.Core.Path.{◌≡◌}
 use lib.ListN.{length}
 use Rattle.frames.specs.Stack.{whole, stack}
-use Rattle.passing.specs.Passing.{Passes}
-use Rattle.passing.specs.declared.Passed.{Passed}
+use Rattle.passing.specs.Passing.{Passage, Passes}
 use mathlib.Core.List.{List}
 use Rattle.passing.proofs.+over.Given as goal
 
@@ -52,7 +51,7 @@ invariant-over_level-loop-p l = (l.n + l.pos ≤ l.p)
     × (l.n ≤ length l.slots)
     × (length l.slots ≡ length l.initial.slots)
     × (length l.space ≡ 1)
-    × ((r : Passed)
+    × ((r : Passage)
     → Passes (whole (type (env_of l.tables l.layout l.strings l.blob l.owners) l.left) (stack l.slots l.n) l.sig l.p) l.have r
     → Passes (type (env_of l.tables l.layout l.strings l.blob l.owners) l.left l.sig l.pos) l.steps r)
 
@@ -60,21 +59,20 @@ abbrev pub decreases-over_level-loop-p : goal.decreases-over_level-loop-p
 decreases-over_level-loop-p l = length l.sig - l.p
 
 -- What the rest comes to, the whole comes to.
-abbrev pub invariant-over_parameters-loop-i : goal.invariant-over_parameters-loop-i
-invariant-over_parameters-loop-i l = (l.i ≤ l.n)
-    × (l.pos ≤ l.p)
-    × ((r : Passed)
-    → Passes (parameters (l.n - l.i) l.i (type (env_of l.tables l.layout l.strings l.blob l.owners) l.left) l.sig l.p) l.have r
-    → Passes (parameters l.n 0 (type (env_of l.tables l.layout l.strings l.blob l.owners) l.left) l.sig l.pos) l.steps r)
+abbrev pub invariant-over_parameters-loop : goal.invariant-over_parameters-loop
+invariant-over_parameters-loop l = (l.pos ≤ l.p)
+    × ((r : Passage)
+    → Passes (parameters (l.count - l.counter) l.counter (type (env_of l.tables l.layout l.strings l.blob l.owners) l.left) l.sig l.p) l.have r
+    → Passes (parameters l.count 0 (type (env_of l.tables l.layout l.strings l.blob l.owners) l.left) l.sig l.pos) l.steps r)
 
-abbrev pub decreases-over_parameters-loop-i : goal.decreases-over_parameters-loop-i
-decreases-over_parameters-loop-i l = l.n - l.i
+abbrev pub decreases-over_parameters-loop : goal.decreases-over_parameters-loop
+decreases-over_parameters-loop l = l.count - l.counter
 
 -- What the type at hand comes to, the first comes to.
 abbrev pub invariant-over_type-loop-p : goal.invariant-over_type-loop-p
 invariant-over_type-loop-p l = (l.pos ≤ l.p)
     × (l.deep ≤ l.left)
-    × ((r : Passed)
+    × ((r : Passage)
     → Passes (type (env_of l.tables l.layout l.strings l.blob l.owners) l.deep l.sig l.p) l.have r
     → Passes (type (env_of l.tables l.layout l.strings l.blob l.owners) l.left l.sig l.pos) l.steps r)
 

@@ -1,9 +1,7 @@
 use mathlib.Core.Path.{refl, sym, ap, ◌∙◌}
-use Prim.Native.Nat.{◌-◌}
 use native.Mathlib.Omega.{arith}
 use lib.ListN.{length, get_or, length-set}
-use Rattle.header.specs.declared.Header.{Header}
-use Rattle.header.specs.declared.Opened.TheVariants.{Ready}
+use Rattle.header.specs.Stream.{Opening}
 use Rattle.layouts.specs.Kinds.{constant, custom_attribute, module_ref, assembly_ref}
 use Rattle.layouts.specs.Read.{reference_columns, reference_column, offset_in, bytes_in}
 use Rattle.layouts.proofs.Facts.{size-pos}
@@ -11,10 +9,12 @@ use Rattle.tables.specs.Extents.{walk_by, only_entire}
 use Rattle.tables.proofs.Outcome.{same-walk}
 use Rattle.references.specs.Columns as columns
 use Rattle.references.specs.Layout.{layout_of}
+use Rattle.opening.proofs.Laying.{bit_is}
 use Rattle.opening.proofs.Starts.{start-within}
 use Rattle.opening.proofs.Filling.{empty, turn, read_at, kind-below, first-is, low-is, high_is, step_is, width_is, kept-is}
 use Rattle.references.proofs.Laying.{layout-at, entire-is, whole}
 use Rattle.references.proofs.lay.Goals as goal
+use Rattle.std.specs.Prelude.{Ok}
 
 pub walk_tables-walk-requires : goal.walk_tables-walk-requires
 walk_tables-walk-requires c = record { first_le_len = c.requires.first_le_len.0; by_index = λ k h. rw c.index_sizes-sizes.ensures (size-pos _ _ _ k h) }
@@ -81,7 +81,7 @@ loop-c-preserved c =
     let e = c.walk_tables-walk.ensures ∙ same-walk w _ _ _ in
     let a = c.args in
     let o = a.options in
-    let h : Header = record { answer = Ready; heap = a.heap; first = a.first; counts = a.counts.now } in
+    let h : Opening = record { answer = (Ok tt); heap = a.heap; first = a.first; counts = a.counts.now } in
     let n = a.len in
     let all = layout_of o h n in
     let at = layout-at o h n in
@@ -112,11 +112,11 @@ unfolding walk_by only_entire
 returns c =
     let args = c.args in
     let o = args.options in
-    let h : Header = record { answer = Ready; heap = args.heap; first = args.first; counts = args.counts.now } in
+    let h : Opening = record { answer = (Ok tt); heap = args.heap; first = args.first; counts = args.counts.now } in
     let n = args.len in
     let r = c.walk_tables-walk.result in
     let e = c.walk_tables-walk.ensures ∙ same-walk c.index_sizes-sizes.ensures _ _ _ in
-    whole o h n _ c.loop-c.invariant.1 c.loop-c.invariant.0 c.loop-c-test.false refl c.flag.ensures c.flag-2.ensures
+    whole o h n _ c.loop-c.invariant.1 c.loop-c.invariant.0 c.loop-c-test.false refl (c.from.ensures ∙ bit_is _) (c.from-2.ensures ∙ bit_is _)
     (entire-is o h n r e constant refl c.entire_rows.ensures)
     (entire-is o h n r e custom_attribute refl c.entire_rows-2.ensures)
     (entire-is o h n r e module_ref refl c.entire_rows-3.ensures)

@@ -1,20 +1,18 @@
-use Prim.Native.Nat.{◌-◌}
-use native.Mathlib.Omega.{arith}
-use Rattle.shapes.proofs.Series.{is_number, no_number, pass-start, pass-turn, pass-cut, pass-done}
+use mathlib.Core.Path.{sym}
+use Rattle.std.proofs.lemmas.Result.{err_from_is_err_and}
+use Rattle.shapes.proofs.Series.{pass-start, pass-turn, pass-cut, pass-done}
 use Rattle.shapes.proofs.pass_items.Goals as goal
 
-pub loop-i-init : goal.loop-i-init
-loop-i-init c = (omega arith, λ r h. pass-start h)
+pub loop-init : goal.loop-init
+loop-init c = λ r h. pass-start h
 
-pub loop-i-preserved : goal.loop-i-preserved
-loop-i-preserved c =
-    let number = is_number c.read_uint.ensures c.in-Number.is in
-    (omega arith, λ r h. c.loop-i.invariant.1 r (pass-turn c.loop-i-test.true number h))
+pub loop-preserved : goal.loop-preserved
+loop-preserved c = λ r h. c.loop.invariant r (pass-turn c.loop-test.true (sym c.in_ok-next.ensures) h)
 
-pub returns-in-NoNumber : goal.returns-in-NoNumber
-returns-in-NoNumber c =
-    let no = no_number c.read_uint.ensures c.in-NoNumber.is in
-    c.loop-i.invariant.1 _ (pass-cut c.loop-i-test.true no)
+pub returns-in_err-next : goal.returns-in_err-next
+returns-in_err-next c =
+    let up = err_from_is_err_and c.from_residual.result c.from_residual.ensures.1 in
+    c.loop.invariant _ (rw (up.1, up.2) (pass-cut c.loop-test.true (sym c.in_err-next.ensures)))
 
 pub returns : goal.returns
-returns c = c.loop-i.invariant.1 _ (pass-done c.loop-i-test.false)
+returns c = c.loop.invariant _ (pass-done c.loop-test.false)

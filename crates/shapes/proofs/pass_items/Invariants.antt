@@ -1,10 +1,9 @@
-use Prim.Native.Nat.{◌-◌, ◌≤◌}
-use Rattle.shapes.specs.Series.{Passes}
-use Rattle.shapes.specs.declared.Pass.{Pass}
+use Prim.Native.Nat.{◌-◌}
+use Rattle.shapes.specs.Series.{Pass, Passes}
 use Rattle.shapes.proofs.pass_items.Given as goal
 
-abbrev pub invariant-loop-i : goal.invariant-loop-i
-invariant-loop-i l = (l.i ≤ l.n) × ((r : Pass) → Passes (l.n - l.i) l.sig l.p r → Passes l.n l.sig l.at r)
+abbrev pub invariant-loop : goal.invariant-loop
+invariant-loop l = (r : Pass) → Passes (l.n - l.counter) l.sig l.p r → Passes l.n l.sig l.at r
 
-abbrev pub decreases-loop-i : goal.decreases-loop-i
-decreases-loop-i l = l.n - l.i
+abbrev pub decreases-loop : goal.decreases-loop
+decreases-loop l = l.n - l.counter

@@ -1,27 +1,26 @@
 use mathlib.Core.Path.{refl, ◌∙◌}
-use Prim.Native.Nat.{◌-◌}
 use native.Mathlib.Omega.{arith}
 use Rattle.buffers.proofs.Writing.{wrote-over}
 use Rattle.shapes.proofs.Runs.{brackets-start, brackets-turn, brackets-done}
 use Rattle.shapes.proofs.push_brackets.Goals as goal
 
-pub loop-i-init : goal.loop-i-init
-loop-i-init c = (refl, λ b r h. brackets-start _ h)
+pub loop-init : goal.loop-init
+loop-init c = (refl, λ b r h. brackets-start _ h)
 
 pub shape_of-buf-then-buf-k : goal.shape_of-buf-then-buf-k
-shape_of-buf-then-buf-k c = c.loop-i.invariant.0
+shape_of-buf-then-buf-k c = c.loop.invariant.0
 
 pub returns-then-buf-k : goal.returns-then-buf-k
-returns-then-buf-k c = c.loop-i.invariant.1 _ _ (wrote-over _ _ _ (omega (arith, c.if-buf-k.true)))
+returns-then-buf-k c = c.loop.invariant.1 _ _ (wrote-over _ _ _ (omega (arith, c.if-buf-k.true)))
 
-pub loop-i-preserved : goal.loop-i-preserved
-loop-i-preserved c =
-    let l = c.loop-i in
+pub loop-preserved : goal.loop-preserved
+loop-preserved c =
+    let l = c.loop in
     let w = c.push-k.ensures in
-    (w.keeps.long ∙ l.invariant.0, λ b r h. l.invariant.1 b r (brackets-turn _ c.loop-i-test.true w h))
+    (w.keeps.long ∙ l.invariant.0, λ b r h. l.invariant.1 b r (brackets-turn _ c.loop-test.true w h))
 
 pub shape_of-buf : goal.shape_of-buf
-shape_of-buf c = c.push.ensures.keeps.long ∙ c.loop-i.invariant.0
+shape_of-buf c = c.push.ensures.keeps.long ∙ c.loop.invariant.0
 
 pub returns : goal.returns
-returns c = c.loop-i.invariant.1 _ _ (brackets-done _ c.loop-i-test.false c.push.ensures)
+returns c = c.loop.invariant.1 _ _ (brackets-done _ c.loop-test.false c.push.ensures)

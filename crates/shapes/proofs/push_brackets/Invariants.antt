@@ -6,8 +6,5 @@ use Rattle.buffers.specs.Writes.{Wrote}
 use Rattle.shapes.specs.Runs.{brackets}
 use Rattle.shapes.proofs.push_brackets.Given as goal
 
-abbrev pub invariant-loop-i : goal.invariant-loop-i
-invariant-loop-i l = (length l.buf ≡ length l.initial.buf) × ((b : List ℕ) (r : ℕ) → Wrote l.buf l.k (brackets (l.count - l.i)) b r → Wrote l.initial.buf l.at (brackets l.count) b r)
-
-abbrev pub decreases-loop-i : goal.decreases-loop-i
-decreases-loop-i l = l.count - l.i
+abbrev pub invariant-loop : goal.invariant-loop
+invariant-loop l = (length l.buf ≡ length l.initial.buf) × ((b : List ℕ) (r : ℕ) → Wrote l.buf l.k (brackets (l.count - l.counter)) b r → Wrote l.initial.buf l.at (brackets l.count) b r)

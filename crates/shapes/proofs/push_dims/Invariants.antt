@@ -15,6 +15,3 @@ invariant-loop-i l = (length l.buf ≡ length l.initial.buf)
     × ((b : List ℕ) (r : ℕ) → Wrote l.buf l.k (ahead (l.rank - l.i) l.i (numbers (l.sizes.count - l.i) uint l.sig l.size_pos)
     (numbers (l.bounds.count - l.i) sint l.sig l.bound_pos)) b r
     → Wrote l.initial.buf l.at (dims l.rank 0 (items uint l.sig l.sizes) (items sint l.sig l.bounds) ++ q "]") b r)
-
-abbrev pub decreases-loop-i : goal.decreases-loop-i
-decreases-loop-i l = l.rank - l.i

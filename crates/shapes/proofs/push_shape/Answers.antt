@@ -1,27 +1,29 @@
+use mathlib.Core.Path.{sym}
 use Rattle.buffers.proofs.Writing.{kept_same, wrote_then}
 use Rattle.rendering.proofs.Laws.{rendered-some, rendered-none}
-use Rattle.shapes.proofs.Series.{is_number, no_number, shape-rankless, shape-sizeless, shape-boundless, shape_is}
+use Rattle.std.proofs.lemmas.Result.{err_from_is_err_and}
+use Rattle.shapes.proofs.Series.{shape-rankless, shape-sizeless, shape-boundless, shape_is}
 use Rattle.shapes.proofs.push_shape.Goals as goal
 
-pub returns-in-All-find_items : goal.returns-in-All-find_items
-returns-in-All-find_items c =
-    let ranked = is_number c.read_uint.ensures c.in-Number.is in
+pub returns-in_err-rank : goal.returns-in_err-rank
+returns-in_err-rank c =
+    let up = err_from_is_err_and c.from_residual.result c.from_residual.ensures.1 in
+    rw (up.1, up.2) (rendered-none (shape-rankless _ _ (sym c.in_err-rank.ensures)) (kept_same _ _))
+
+pub returns-in_err-sizes : goal.returns-in_err-sizes
+returns-in_err-sizes c =
+    let up = err_from_is_err_and c.from_residual-in_err-sizes.result c.from_residual-in_err-sizes.ensures.1 in
+    rw (up.1, up.2) (rendered-none (shape-sizeless _ _ _ _ (sym c.in_ok-rank.ensures) c.in_err-sizes.ensures) (kept_same _ _))
+
+pub returns-in_err-bounds : goal.returns-in_err-bounds
+returns-in_err-bounds c =
+    let up = err_from_is_err_and c.from_residual-in_err-bounds.result c.from_residual-in_err-bounds.ensures.1 in
+    rw (up.1, up.2) (rendered-none
+    (shape-boundless _ _ _ _ (sym c.in_ok-rank.ensures) c.in_ok-sizes.ensures c.in_err-bounds.ensures)
+    (kept_same _ _))
+
+pub returns : goal.returns
+returns c =
     rendered-some
-    (shape_is _ _ _ _ ranked c.find_items.ensures c.in-All.is c.find_items-in-All.ensures c.in-All-find_items.is _
-    c.wide.ensures.0)
-    (wrote_then c.push-k.ensures c.push_dims-end.ensures)
-
-pub returns-in-Lost-find_items : goal.returns-in-Lost-find_items
-returns-in-Lost-find_items c =
-    let ranked = is_number c.read_uint.ensures c.in-Number.is in
-    rendered-none
-    (shape-boundless _ _ _ _ ranked c.find_items.ensures c.in-All.is c.find_items-in-All.ensures c.in-Lost-find_items.is)
-    (kept_same _ _)
-
-pub returns-in-Lost : goal.returns-in-Lost
-returns-in-Lost c =
-    let ranked = is_number c.read_uint.ensures c.in-Number.is in
-    rendered-none (shape-sizeless _ _ _ _ ranked c.find_items.ensures c.in-Lost.is) (kept_same _ _)
-
-pub returns-in-NoNumber : goal.returns-in-NoNumber
-returns-in-NoNumber c = rendered-none (shape-rankless _ _ (no_number c.read_uint.ensures c.in-NoNumber.is)) (kept_same _ _)
+    (shape_is _ _ _ _ (sym c.in_ok-rank.ensures) c.in_ok-sizes.ensures c.in_ok-bounds.ensures c.wide.ensures.0)
+    (wrote_then c.push-k.ensures c.push_dims.ensures)

@@ -1,8 +1,8 @@
 use Rattle.shapes.proofs.Dims.{size-some, size_none}
 use Rattle.shapes.proofs.push_size.Goals as goal
 
-pub returns-in-Number : goal.returns-in-Number
-returns-in-Number c = size-some c.in-Number.is c.wide.ensures.0 c.push_decimal.ensures
+pub returns-in-Ok : goal.returns-in-Ok
+returns-in-Ok c = size-some c.in-Ok.is c.wide.ensures.0 c.push_decimal.ensures
 
-pub returns-in-NoNumber : goal.returns-in-NoNumber
-returns-in-NoNumber c = size_none c.in-NoNumber.is c.push.ensures
+pub returns-in-Err : goal.returns-in-Err
+returns-in-Err c = size_none c.in-Err.is c.push.ensures

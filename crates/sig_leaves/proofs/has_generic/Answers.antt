@@ -1,9 +1,12 @@
-use Rattle.rows.specs.Layout.{view_in}
-use Rattle.sig_leaves.proofs.Generics.{generic-there, nobody-there}
+use mathlib.Core.Path.{refl}
+use native.Mathlib.Omega.{arith}
 use Rattle.sig_leaves.proofs.has_generic.Goals as goal
 
-pub returns-in-Of : goal.returns-in-Of
-returns-in-Of c = λ blob. generic-there (view_in c.args.tables.now c.args.layout.now c.args.strings.now blob) _ c.in-Of.is (c.has_owned.ensures blob)
+pub has_string-requires : goal.has_string-requires
+has_string-requires c = record { laid = c.requires; column_lt_count = (omega arith, c.in-Some.ensures.0) }
 
-pub returns-in-Nobody : goal.returns-in-Nobody
-returns-in-Nobody c = λ blob. nobody-there (view_in c.args.tables.now c.args.layout.now c.args.strings.now blob) _ c.in-Nobody.is
+pub returns-in-Some : goal.returns-in-Some
+returns-in-Some c = λ blob. rw (c.in-Some.ensures.1 _ blob) c.has_string.ensures
+
+pub returns-in-None : goal.returns-in-None
+returns-in-None c = λ blob. rw (c.in-None.ensures _ blob) refl

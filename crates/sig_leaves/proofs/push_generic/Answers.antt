@@ -1,10 +1,12 @@
-use Rattle.buffers.proofs.Writing.{kept_same}
-use Rattle.rows.specs.Layout.{view_in}
-use Rattle.sig_leaves.proofs.Generics.{said-generic, said-nobody}
+use native.Mathlib.Omega.{arith}
+use Rattle.buffers.proofs.Writing.{kept_same, said-missing}
 use Rattle.sig_leaves.proofs.push_generic.Goals as goal
 
-pub returns-in-Of : goal.returns-in-Of
-returns-in-Of c = λ blob. said-generic (view_in c.args.tables.now c.args.layout.now c.args.strings.now blob) _ c.in-Of.is (c.push_owned.ensures blob)
+pub push_string-requires : goal.push_string-requires
+push_string-requires c = record { laid = c.requires; column_lt_count = (omega arith, c.in_ok-row.ensures.0) }
 
-pub returns-in-Nobody : goal.returns-in-Nobody
-returns-in-Nobody c = λ blob. said-nobody (view_in c.args.tables.now c.args.layout.now c.args.strings.now blob) _ c.in-Nobody.is (kept_same _ _)
+pub returns-in_err-row : goal.returns-in_err-row
+returns-in_err-row c = λ blob. rw c.from_residual.ensures (said-missing (c.in_err-row.ensures _ blob) (kept_same _ _))
+
+pub returns : goal.returns
+returns c = λ blob. rw (c.in_ok-row.ensures.1 _ blob) c.push_string.ensures

@@ -1,19 +1,16 @@
 use native.Mathlib.Omega.{arith}
-use Rattle.sig_leaves.proofs.Specs.{spec-null, spec-past, spec-found, spec-absent}
+use Rattle.sig_leaves.proofs.Specs.{spec-null, spec-past, spec-read}
 use Rattle.sig_leaves.proofs.spec_blob.Goals as goal
 
-pub returns-then-r-eq0 : goal.returns-then-r-eq0
-returns-then-r-eq0 c = λ strings. spec-null c.requires strings _ _ c.if-r-eq0.true
+pub returns-in_err-i : goal.returns-in_err-i
+returns-in_err-i c = λ strings. rw c.from_residual.ensures (spec-null c.requires strings _ _ (omega (arith, c.in_err-i.ensures)))
 
-pub returns-then-count_rows-r : goal.returns-then-count_rows-r
-returns-then-count_rows-r c = λ strings. spec-past c.requires strings _ _ c.if-r-eq0.false (omega (arith, c.count_rows.ensures))
+pub returns-then-count_rows-i : goal.returns-then-count_rows-i
+returns-then-count_rows-i c = λ strings.
+    spec-past c.requires strings _ _ (omega (arith, c.in_ok-i.ensures)) (omega (arith, c.in_ok-i.ensures, c.count_rows.ensures))
 
-pub returns-in-Found : goal.returns-in-Found
-returns-in-Found c = λ strings.
-    spec-found c.requires strings _ _ c.if-r-eq0.false (omega (arith, c.count_rows.ensures)) c.read_column-index.ensures
-    c.get_blob.ensures c.in-Found.is
-
-pub returns-in-Absent : goal.returns-in-Absent
-returns-in-Absent c = λ strings.
-    spec-absent c.requires strings _ _ c.if-r-eq0.false (omega (arith, c.count_rows.ensures)) c.read_column-index.ensures
-    c.get_blob.ensures c.in-Absent.is
+pub returns : goal.returns
+returns c = λ strings.
+    rw c.ok.ensures.value
+    (spec-read c.requires strings _ _ (omega (arith, c.in_ok-i.ensures)) (omega (arith, c.in_ok-i.ensures, c.count_rows.ensures)) _
+    (rw c.in_ok-i.ensures.1 at c.read_column-index.ensures) c.get_blob.ensures)

@@ -2,140 +2,146 @@
 use mathlib.Core.Path.{sym, ap, ◌∙◌, refl, ◌≡◌}
 use Prim.Native.Nat.{◌+◌, ◌-◌, ◌<◌, ◌≤◌, zero-le, suc}
 use native.Mathlib.Omega.{arith}
-use Rattle.numbers.specs.Compressed.{uint_says}
 use Rattle.record.specs.Types.{type, form, look}
-use Rattle.rendering.proofs.Laws.{rendered-done, rendered-failed}
+use Rattle.rendering.proofs.Laws.{rendered-failed, text_in, text_out}
 use Rattle.signatures.specs.Environment.{env_of, env_in}
 use lib.ListN.{get_or}
 use Rattle.buffers.specs.Writes.{place_says}
-use mathlib.Core.Logic.{◌⊎◌, inl, inr, ⊎_elim}
+use mathlib.Core.Logic.{◌⊎◌, inl, inr}
 use Rattle.frames.specs.Stack.{stack}
 use native.Mathlib.Nat.{sub-zero, le_refl, le_trans, pos_of_ne-zero}
 use Rattle.shapes.proofs.Laws.{run-leads, run-plain, run-stops}
 use Rattle.numbers.proofs.Parts.{cut-is}
 use Rattle.buffers.proofs.Writing.{kept_same, said-missing}
 use Rattle.sig_leaves.proofs.Specs.{blob-there, blob-missing}
+use Rattle.std.proofs.lemmas.Result.{err_from_is_err_and}
 use Rattle.signatures.proofs.Forms as forms
 use Rattle.frames.proofs.Turns as turns
 use Rattle.frames.proofs.Rendering as rendering
 use Rattle.signatures.proofs.+sig.Goals as goal
-use Rattle.signatures.proofs.+sig.Goals.{sig_form-in_default-via-then-tag-lt15, sig_form-in_default-via-else-tag-lt15+else-tag-lt17+else-tag-lt19}
+use Rattle.signatures.proofs.+sig.Goals.{sig_parameters-in-Ok, sig_parameters-in-Err, sig_form-in_default-via-then-tag-lt15, sig_form-in_default-via-else-tag-lt15+else-tag-lt17+else-tag-lt19}
 
 pub parse_method_def_signature-sig_type-requires : goal.parse_method_def_signature-sig_type-requires
 parse_method_def_signature-sig_type-requires t c =
     let a = c.args in
-    (omega (arith, c.decreases, forms.start-ahead a.sig.now a.pos (sym (ap uint_says c.in-Number.is) ∙ c.read_method_start.ensures)), c.requires)
+    (omega (arith, c.decreases, forms.start-ahead a.sig.now a.pos c.in_ok-count.ensures), c.requires)
 
 pub parse_method_def_signature-sig_parameters-requires : goal.parse_method_def_signature-sig_parameters-requires
 parse_method_def_signature-sig_parameters-requires t c =
     let a = c.args in
     let e = env_of a.tables.now a.layout.now a.strings.now a.blob.now a.owners.now in
-    let T = type e a.left in
     let s = a.sig.now in
-    let t = rendered-done c.sig_type.ensures c.in-Done.is in
-    (omega (arith, c.decreases, forms.start-ahead s a.pos (sym (ap uint_says c.in-Number.is) ∙ c.read_method_start.ensures), forms.type-ahead s _ e a.left t), (c.requires, omega (arith, c.push-inner.ensures.place, c.push-inner.ensures.keeps.long)))
+    let t = text_in c.in_ok-end.ensures in
+    (omega (arith, c.decreases, forms.start-ahead s a.pos c.in_ok-count.ensures, forms.type-ahead s _ e a.left t), (c.requires, omega (arith, c.push-inner.ensures.place, c.push-inner.ensures.keeps.long)))
 
-pub parse_method_def_signature-shape_of-buf-in-Done-sig_parameters : goal.parse_method_def_signature-shape_of-buf-in-Done-sig_parameters
-parse_method_def_signature-shape_of-buf-in-Done-sig_parameters t c = c.push.auto.buf ∙ c.sig_parameters.auto.buf ∙ c.push-inner.auto.buf ∙ c.sig_type.auto.buf ∙ c.push-open.auto.buf
-
-pub parse_method_def_signature-returns-in-Done-sig_parameters : goal.parse_method_def_signature-returns-in-Done-sig_parameters
-parse_method_def_signature-returns-in-Done-sig_parameters t c =
+pub parse_method_def_signature-returns : goal.parse_method_def_signature-returns
+parse_method_def_signature-returns t c =
     let a = c.args in
     let e = env_of a.tables.now a.layout.now a.strings.now a.blob.now a.owners.now in
     let T = type e a.left in
     let s = a.sig.now in
-    let t = rendered-done c.sig_type.ensures c.in-Done.is in
-    forms.pointer-done T s a.pos (sym (ap uint_says c.in-Number.is) ∙ c.read_method_start.ensures) c.push-open.ensures t c.push-inner.ensures (rendered-done c.sig_parameters.ensures c.in-Done-sig_parameters.is) c.push.ensures
+    forms.pointer-done T s a.pos c.in_ok-count.ensures c.push-open.ensures (text_in c.in_ok-end.ensures) c.push-inner.ensures (text_in c.in_ok-close.ensures) c.push.ensures
 
-pub parse_method_def_signature-returns-in-Failed-sig_parameters : goal.parse_method_def_signature-returns-in-Failed-sig_parameters
-parse_method_def_signature-returns-in-Failed-sig_parameters t c =
+pub parse_method_def_signature-returns-in_err-close : goal.parse_method_def_signature-returns-in_err-close
+parse_method_def_signature-returns-in_err-close t c =
     let a = c.args in
     let e = env_of a.tables.now a.layout.now a.strings.now a.blob.now a.owners.now in
     let T = type e a.left in
     let s = a.sig.now in
-    let t = rendered-done c.sig_type.ensures c.in-Done.is in
-    forms.pointer-cut T s a.pos (sym (ap uint_says c.in-Number.is) ∙ c.read_method_start.ensures) c.push-open.ensures t c.push-inner.ensures (rendered-failed c.sig_parameters.ensures c.in-Failed-sig_parameters.is)
+    let up = err_from_is_err_and c.from_residual-in_err-close.result c.from_residual-in_err-close.ensures.1 in
+    rw (up.1, up.2)
+    (forms.pointer-cut T s a.pos c.in_ok-count.ensures c.push-open.ensures (text_in c.in_ok-end.ensures) c.push-inner.ensures (text_out c.in_err-close.ensures))
 
-pub parse_method_def_signature-returns-in-Failed : goal.parse_method_def_signature-returns-in-Failed
-parse_method_def_signature-returns-in-Failed t c =
+pub parse_method_def_signature-returns-in_err-end : goal.parse_method_def_signature-returns-in_err-end
+parse_method_def_signature-returns-in_err-end t c =
     let a = c.args in
     let e = env_of a.tables.now a.layout.now a.strings.now a.blob.now a.owners.now in
     let T = type e a.left in
     let s = a.sig.now in
-    forms.pointer-failed T s a.pos (sym (ap uint_says c.in-Number.is) ∙ c.read_method_start.ensures) c.push-open.ensures (rendered-failed c.sig_type.ensures c.in-Failed.is)
+    let up = err_from_is_err_and c.from_residual-in_err-end.result c.from_residual-in_err-end.ensures.1 in
+    rw (up.1, up.2)
+    (forms.pointer-failed T s a.pos c.in_ok-count.ensures c.push-open.ensures (text_out c.in_err-end.ensures))
 
-pub parse_method_def_signature-returns-in-NoNumber : goal.parse_method_def_signature-returns-in-NoNumber
-parse_method_def_signature-returns-in-NoNumber t c =
+pub parse_method_def_signature-returns-in_err-count : goal.parse_method_def_signature-returns-in_err-count
+parse_method_def_signature-returns-in_err-count t c =
     let a = c.args in
     let e = env_of a.tables.now a.layout.now a.strings.now a.blob.now a.owners.now in
     let T = type e a.left in
     let s = a.sig.now in
-    forms.pointer-uncounted T s a.pos _ (sym (ap uint_says c.in-NoNumber.is) ∙ c.read_method_start.ensures)
+    let up = err_from_is_err_and c.from_residual.result c.from_residual.ensures.1 in
+    rw (up.1, up.2)
+    (forms.pointer-uncounted T s a.pos _ c.in_err-count.ensures)
 
 pub sig_around-sig_type-requires : goal.sig_around-sig_type-requires
 sig_around-sig_type-requires t c = (omega (arith, c.decreases), c.requires)
 
-pub sig_around-returns-in-Done : goal.sig_around-returns-in-Done
-sig_around-returns-in-Done t c =
+pub sig_around-returns : goal.sig_around-returns
+sig_around-returns t c =
     let a = c.args in
     let e = env_of a.tables.now a.layout.now a.strings.now a.blob.now a.owners.now in
     let T = type e a.left in
     let s = a.sig.now in
-    forms.around-done T s a.pos _ _ c.push_before-first.ensures (rendered-done c.sig_type.ensures c.in-Done.is) c.push_behind.ensures
+    forms.around-done T s a.pos _ _ c.push_before-first.ensures (text_in c.in_ok-end.ensures) c.push_behind.ensures
 
-pub sig_around-returns-in-Failed : goal.sig_around-returns-in-Failed
-sig_around-returns-in-Failed t c =
+pub sig_around-returns-in_err-end : goal.sig_around-returns-in_err-end
+sig_around-returns-in_err-end t c =
     let a = c.args in
     let e = env_of a.tables.now a.layout.now a.strings.now a.blob.now a.owners.now in
     let T = type e a.left in
     let s = a.sig.now in
-    forms.around-failed T s a.pos _ _ c.push_before-first.ensures (rendered-failed c.sig_type.ensures c.in-Failed.is)
+    let up = err_from_is_err_and c.from_residual.result c.from_residual.ensures.1 in
+    rw (up.1, up.2)
+    (forms.around-failed T s a.pos _ _ c.push_before-first.ensures (text_out c.in_err-end.ensures))
 
 pub sig_array-sig_type-requires : goal.sig_array-sig_type-requires
 sig_array-sig_type-requires t c = (omega (arith, c.decreases), c.requires)
 
-pub sig_array-returns-in-Done : goal.sig_array-returns-in-Done
-sig_array-returns-in-Done t c =
+pub sig_array-returns : goal.sig_array-returns
+sig_array-returns t c =
     let a = c.args in
     let e = env_of a.tables.now a.layout.now a.strings.now a.blob.now a.owners.now in
     let T = type e a.left in
     let s = a.sig.now in
-    forms.array-shaped T s a.pos (rendered-done c.sig_type.ensures c.in-Done.is) c.push_shape.ensures
+    forms.array-shaped T s a.pos (text_in c.in_ok-end.ensures) c.push_shape.ensures
 
-pub sig_array-returns-in-Failed : goal.sig_array-returns-in-Failed
-sig_array-returns-in-Failed t c =
+pub sig_array-returns-in_err-end : goal.sig_array-returns-in_err-end
+sig_array-returns-in_err-end t c =
     let a = c.args in
     let e = env_of a.tables.now a.layout.now a.strings.now a.blob.now a.owners.now in
     let T = type e a.left in
     let s = a.sig.now in
-    forms.array-failed T s a.pos (rendered-failed c.sig_type.ensures c.in-Failed.is)
+    let up = err_from_is_err_and c.from_residual.result c.from_residual.ensures.1 in
+    rw (up.1, up.2)
+    (forms.array-failed T s a.pos (text_out c.in_err-end.ensures))
 
 pub sig_class-type_name-requires : goal.sig_class-type_name-requires
 sig_class-type_name-requires t c = (omega (arith, c.decreases, c.well_formed.1.1.1.1.0.1), c.requires)
 
-pub sig_class-returns-in-Next : goal.sig_class-returns-in-Next
-sig_class-returns-in-Next t c =
+pub sig_class-returns-in-Some : goal.sig_class-returns-in-Some
+sig_class-returns-in-Some t c =
     let a = c.args in
     let e = env_of a.tables.now a.layout.now a.strings.now a.blob.now a.owners.now in
     let T = type e a.left in
     let s = a.sig.now in
-    forms.class-done e T s a.pos _ _ (sym (ap uint_says c.in-Number.is) ∙ c.read_uint.ensures) (rw (ap place_says c.in-Next.is) at c.type_name.ensures)
+    forms.class-done e T s a.pos _ _ c.in_ok-index.ensures (rw (ap place_says c.in-Some.is) at c.type_name.ensures)
 
-pub sig_class-returns-in-Missing : goal.sig_class-returns-in-Missing
-sig_class-returns-in-Missing t c =
+pub sig_class-returns-in-None : goal.sig_class-returns-in-None
+sig_class-returns-in-None t c =
     let a = c.args in
     let e = env_of a.tables.now a.layout.now a.strings.now a.blob.now a.owners.now in
     let T = type e a.left in
     let s = a.sig.now in
-    forms.class-missing e T s a.pos _ _ (sym (ap uint_says c.in-Number.is) ∙ c.read_uint.ensures) (rw (ap place_says c.in-Missing.is) at c.type_name.ensures)
+    forms.class-missing e T s a.pos _ _ c.in_ok-index.ensures (rw (ap place_says c.in-None.is) at c.type_name.ensures)
 
-pub sig_class-returns-in-NoNumber : goal.sig_class-returns-in-NoNumber
-sig_class-returns-in-NoNumber t c =
+pub sig_class-returns-in_err-index : goal.sig_class-returns-in_err-index
+sig_class-returns-in_err-index t c =
     let a = c.args in
     let e = env_of a.tables.now a.layout.now a.strings.now a.blob.now a.owners.now in
     let T = type e a.left in
     let s = a.sig.now in
-    forms.class-unread e T s a.pos _ (sym (ap uint_says c.in-NoNumber.is) ∙ c.read_uint.ensures)
+    let up = err_from_is_err_and c.from_residual.result c.from_residual.ensures.1 in
+    rw (up.1, up.2)
+    (forms.class-unread e T s a.pos _ c.in_err-index.ensures)
 
 pub sig_few-sig_level-requires : goal.sig_few-sig_level-requires
 sig_few-sig_level-requires t c = (omega (arith, c.decreases), (c.requires.laid, (c.requires.left_nonzero.0, c.requires.left_nonzero.1, omega arith)))
@@ -237,113 +243,6 @@ sig_level-loop-p-init t c =
 pub sig_level-descend-requires : goal.sig_level-descend-requires
 sig_level-descend-requires t c = c.loop-p.invariant.1
 
-pub sig_level-sig_inner-requires : goal.sig_level-sig_inner-requires
-sig_level-sig_inner-requires t c =
-    let came = turns.came c.descend.ensures c.in-At.is in
-    let room = c.descend.auto.frames in
-    let ahead = turns.came-on c.descend.ensures c.in-At.is c.requires.left_nonzero.1 c.loop-p.invariant.0
-    (omega (arith, room, c.loop-p.invariant.2, c.requires.left_nonzero.2)) in
-    (omega (arith, c.decreases, ahead, c.loop-p.invariant.0, c.loop-p-test.true), (c.requires.laid, (c.requires.left_nonzero.0, turns.halts-full came.halts)))
-
-pub sig_level-ascend-requires : goal.sig_level-ascend-requires
-sig_level-ascend-requires t c =
-    let text = rendered-done c.sig_inner.ensures c.in-Done.is in
-    let came = turns.came c.descend.ensures c.in-At.is in
-    (omega (arith, text.wrote.place, text.wrote.keeps.long), came.room)
-
-pub sig_level-loop-p-smaller : goal.sig_level-loop-p-smaller
-sig_level-loop-p-smaller t c =
-    let a = c.args in
-    let e = env_of a.tables.now a.layout.now a.strings.now a.blob.now a.owners.now in
-    let level = forms.type-level e a.left c.requires.left_nonzero.0 in
-    let came = turns.came c.descend.ensures c.in-At.is in
-    let text = rendered-done c.sig_inner.ensures c.in-Done.is in
-    let on = forms.type-beyond e a.left a.sig.now _ text in
-    let far = rendering.more-ahead c.ascend.ensures c.in-More.is in
-    omega (arith, c.loop-p-test.true, came.ahead, on, far.0)
-
-pub sig_level-loop-p-preserved : goal.sig_level-loop-p-preserved
-sig_level-loop-p-preserved t c =
-    let a = c.args in
-    let e = env_of a.tables.now a.layout.now a.strings.now a.blob.now a.owners.now in
-    let level = forms.type-level e a.left c.requires.left_nonzero.0 in
-    let came = turns.came c.descend.ensures c.in-At.is in
-    let text = rendered-done c.sig_inner.ensures c.in-Done.is in
-    let more = c.ascend.ensures in
-    let on = forms.type-beyond e a.left a.sig.now _ text in
-    let far = rendering.more-ahead more c.in-More.is in
-    let room = c.ascend.auto.frames in (
-      omega (arith, c.loop-p.invariant.0, came.few, on, far.0, far.1),
-      omega (arith, came.room, far.1, room),
-      room ∙ c.descend.auto.frames ∙ c.loop-p.invariant.2,
-      c.ascend.auto.buf ∙ c.sig_inner.auto.buf ∙ c.loop-p.invariant.3,
-      λ b' r y. c.loop-p.invariant.4 b' r (rendering.level-more (type e a.left) level came.moved text more c.in-More.is y),
-    )
-
-pub sig_level-shape_of-buf-in-Over : goal.sig_level-shape_of-buf-in-Over
-sig_level-shape_of-buf-in-Over t c = c.ascend.auto.buf ∙ c.sig_inner.auto.buf ∙ c.loop-p.invariant.3
-
-pub sig_level-shape_of-slots-in-Over : goal.sig_level-shape_of-slots-in-Over
-sig_level-shape_of-slots-in-Over t c = c.ascend.auto.frames ∙ c.descend.auto.frames ∙ c.loop-p.invariant.2
-
-pub sig_level-returns-in-Over : goal.sig_level-returns-in-Over
-sig_level-returns-in-Over t c =
-    let a = c.args in
-    let e = env_of a.tables.now a.layout.now a.strings.now a.blob.now a.owners.now in
-    let level = forms.type-level e a.left c.requires.left_nonzero.0 in
-    let came = turns.came c.descend.ensures c.in-At.is in
-    let text = rendered-done c.sig_inner.ensures c.in-Done.is in
-    c.loop-p.invariant.4 _ _ (rendering.level-over (type e a.left) level came.moved text c.ascend.ensures c.in-Over.is)
-
-pub sig_level-shape_of-buf-in-Broken-ascend : goal.sig_level-shape_of-buf-in-Broken-ascend
-sig_level-shape_of-buf-in-Broken-ascend t c = c.ascend.auto.buf ∙ c.sig_inner.auto.buf ∙ c.loop-p.invariant.3
-
-pub sig_level-shape_of-slots-in-Broken-ascend : goal.sig_level-shape_of-slots-in-Broken-ascend
-sig_level-shape_of-slots-in-Broken-ascend t c = c.ascend.auto.frames ∙ c.descend.auto.frames ∙ c.loop-p.invariant.2
-
-pub sig_level-returns-in-Broken-ascend : goal.sig_level-returns-in-Broken-ascend
-sig_level-returns-in-Broken-ascend t c =
-    let a = c.args in
-    let e = env_of a.tables.now a.layout.now a.strings.now a.blob.now a.owners.now in
-    let level = forms.type-level e a.left c.requires.left_nonzero.0 in
-    let came = turns.came c.descend.ensures c.in-At.is in
-    let text = rendered-done c.sig_inner.ensures c.in-Done.is in
-    c.loop-p.invariant.4 _ _ (rendering.level-broken (type e a.left) level came.moved text c.ascend.ensures c.in-Broken-ascend.is)
-
-pub sig_level-shape_of-buf-in-Failed : goal.sig_level-shape_of-buf-in-Failed
-sig_level-shape_of-buf-in-Failed t c = c.sig_inner.auto.buf ∙ c.loop-p.invariant.3
-
-pub sig_level-shape_of-slots-in-Failed : goal.sig_level-shape_of-slots-in-Failed
-sig_level-shape_of-slots-in-Failed t c = c.descend.auto.frames ∙ c.loop-p.invariant.2
-
-pub sig_level-returns-in-Failed : goal.sig_level-returns-in-Failed
-sig_level-returns-in-Failed t c =
-    let a = c.args in
-    let e = env_of a.tables.now a.layout.now a.strings.now a.blob.now a.owners.now in
-    let level = forms.type-level e a.left c.requires.left_nonzero.0 in
-    let came = turns.came c.descend.ensures c.in-At.is in
-    let none = rendered-failed c.sig_inner.ensures c.in-Failed.is in
-    c.loop-p.invariant.4 _ _ (rendering.level-failed (type e a.left) level came.moved none)
-
-pub sig_level-shape_of-buf-in-Broken : goal.sig_level-shape_of-buf-in-Broken
-sig_level-shape_of-buf-in-Broken t c = c.loop-p.invariant.3
-
-pub sig_level-shape_of-slots-in-Broken : goal.sig_level-shape_of-slots-in-Broken
-sig_level-shape_of-slots-in-Broken t c = c.descend.auto.frames ∙ c.loop-p.invariant.2
-
-pub sig_level-returns-in-Broken : goal.sig_level-returns-in-Broken
-sig_level-returns-in-Broken t c =
-    let a = c.args in
-    let e = env_of a.tables.now a.layout.now a.strings.now a.blob.now a.owners.now in
-    let level = forms.type-level e a.left c.requires.left_nonzero.0 in
-    c.loop-p.invariant.4 _ _ (rendering.level-torn (type e a.left) level c.descend.ensures c.in-Broken.is)
-
-pub sig_level-shape_of-buf : goal.sig_level-shape_of-buf
-sig_level-shape_of-buf t c = c.loop-p.invariant.3
-
-pub sig_level-shape_of-slots : goal.sig_level-shape_of-slots
-sig_level-shape_of-slots t c = c.loop-p.invariant.2
-
 pub sig_level-returns : goal.sig_level-returns
 sig_level-returns t c =
     let l = c.loop-p in
@@ -351,6 +250,84 @@ sig_level-returns t c =
     let e = env_of a.tables.now a.layout.now a.strings.now a.blob.now a.owners.now in
     let past = rendered-failed (forms.type-past e a.left a.sig.now l.p c.loop-p-test.false) refl in
     l.invariant.4 _ _ (rendering.level-past (type e a.left) a.sig.now l.p (stack l.slots l.n) past)
+
+pub sig_level-sig_inner-requires : goal.sig_level-sig_inner-requires
+sig_level-sig_inner-requires t c =
+    let came = turns.came c.in-Ok.ensures in
+    let room = c.descend.auto.frames in
+    let ahead = turns.came-on came c.requires.left_nonzero.1 c.loop-p.invariant.0
+    (omega (arith, room, c.loop-p.invariant.2, c.requires.left_nonzero.2)) in
+    (omega (arith, c.decreases, ahead, c.loop-p.invariant.0, c.loop-p-test.true), (c.requires.laid, (c.requires.left_nonzero.0, turns.halts-full came.halts)))
+
+pub sig_level-ascend-requires : goal.sig_level-ascend-requires
+sig_level-ascend-requires t c =
+    let text = text_in c.in_ok-end.ensures in
+    let came = turns.came c.in-Ok.ensures in
+    (omega (arith, text.wrote.place, text.wrote.keeps.long), came.room)
+
+pub sig_level-loop-p-smaller : goal.sig_level-loop-p-smaller
+sig_level-loop-p-smaller t c =
+    let a = c.args in
+    let e = env_of a.tables.now a.layout.now a.strings.now a.blob.now a.owners.now in
+    let came = turns.came c.in-Ok.ensures in
+    let text = text_in c.in_ok-end.ensures in
+    let on = forms.type-beyond e a.left a.sig.now _ text in
+    let more = rw c.in-More.is at c.in_ok-place.ensures in
+    let far = rendering.more-ahead more in
+    omega (arith, c.loop-p-test.true, came.ahead, on, far.0)
+
+pub sig_level-loop-p-preserved : goal.sig_level-loop-p-preserved
+sig_level-loop-p-preserved t c =
+    let a = c.args in
+    let e = env_of a.tables.now a.layout.now a.strings.now a.blob.now a.owners.now in
+    let level = forms.type-level e a.left c.requires.left_nonzero.0 in
+    let came = turns.came c.in-Ok.ensures in
+    let text = text_in c.in_ok-end.ensures in
+    let on = forms.type-beyond e a.left a.sig.now _ text in
+    let more = rw c.in-More.is at c.in_ok-place.ensures in
+    let far = rendering.more-ahead more in
+    let room = c.ascend.auto.frames in (
+      omega (arith, c.loop-p.invariant.0, came.few, on, far.0, far.1),
+      omega (arith, came.room, far.1, room),
+      room ∙ c.descend.auto.frames ∙ c.loop-p.invariant.2,
+      c.ascend.auto.buf ∙ c.sig_inner.auto.buf ∙ c.loop-p.invariant.3,
+      λ b' r y. c.loop-p.invariant.4 b' r (rendering.level-more (type e a.left) level came.moved text more y),
+    )
+
+pub sig_level-returns-in-Over : goal.sig_level-returns-in-Over
+sig_level-returns-in-Over t c =
+    let a = c.args in
+    let e = env_of a.tables.now a.layout.now a.strings.now a.blob.now a.owners.now in
+    let level = forms.type-level e a.left c.requires.left_nonzero.0 in
+    let came = turns.came c.in-Ok.ensures in
+    c.loop-p.invariant.4 _ _ (rendering.level-over (type e a.left) level came.moved (text_in c.in_ok-end.ensures) (rw c.in-Over.is at c.in_ok-place.ensures))
+
+pub sig_level-returns-in_err-place : goal.sig_level-returns-in_err-place
+sig_level-returns-in_err-place t c =
+    let a = c.args in
+    let e = env_of a.tables.now a.layout.now a.strings.now a.blob.now a.owners.now in
+    let level = forms.type-level e a.left c.requires.left_nonzero.0 in
+    let came = turns.came c.in-Ok.ensures in
+    let up = err_from_is_err_and c.from_residual-in_err-place.result c.from_residual-in_err-place.ensures.1 in
+    rw (up.1, up.2)
+    (c.loop-p.invariant.4 _ _ (rendering.level-broken (type e a.left) level came.moved (text_in c.in_ok-end.ensures) c.in_err-place.ensures))
+
+pub sig_level-returns-in_err-end : goal.sig_level-returns-in_err-end
+sig_level-returns-in_err-end t c =
+    let a = c.args in
+    let e = env_of a.tables.now a.layout.now a.strings.now a.blob.now a.owners.now in
+    let level = forms.type-level e a.left c.requires.left_nonzero.0 in
+    let came = turns.came c.in-Ok.ensures in
+    let up = err_from_is_err_and c.from_residual.result c.from_residual.ensures.1 in
+    rw (up.1, up.2)
+    (c.loop-p.invariant.4 _ _ (rendering.level-failed (type e a.left) level came.moved (text_out c.in_err-end.ensures)))
+
+pub sig_level-returns-in-Err : goal.sig_level-returns-in-Err
+sig_level-returns-in-Err t c =
+    let a = c.args in
+    let e = env_of a.tables.now a.layout.now a.strings.now a.blob.now a.owners.now in
+    let level = forms.type-level e a.left c.requires.left_nonzero.0 in
+    c.loop-p.invariant.4 _ _ (rendering.level-torn (type e a.left) level c.in-Err.ensures)
 
 pub sig_many-sig_level-requires : goal.sig_many-sig_level-requires
 sig_many-sig_level-requires t c = (omega (arith, c.decreases), (c.requires.laid, (c.requires.left_nonzero.0, c.requires.left_nonzero.1, omega arith)))
@@ -362,22 +339,10 @@ pub sig_many-returns : goal.sig_many-returns
 sig_many-returns t c = c.sig_level.ensures
 
 pub sig_parameters-loop-i-init : goal.sig_parameters-loop-i-init
-sig_parameters-loop-i-init t c = (omega arith, le_refl _, c.requires.at_in_bounds, refl, λ b' r h. rw sub-zero at h)
+sig_parameters-loop-i-init t c = (le_refl _, c.requires.at_in_bounds, refl, λ b' r h. rw sub-zero at h)
 
 pub sig_parameters-sig_type-requires : goal.sig_parameters-sig_type-requires
-sig_parameters-sig_type-requires t c = (omega (arith, c.decreases, c.loop-i.invariant.1), c.requires.laid)
-
-pub sig_parameters-loop-i-preserved-in-Done : goal.sig_parameters-loop-i-preserved-in-Done
-sig_parameters-loop-i-preserved-in-Done t c =
-    let a = c.args in
-    let e = env_of a.tables.now a.layout.now a.strings.now a.blob.now a.owners.now in
-    let T = type e a.left in
-    let s = a.sig.now in
-    let h = c.loop-i in
-    let n = a.count in
-    let step : n - h.i ≡ suc (n - (h.i + 1)) = omega (arith, c.loop-i-test.true) in
-    let t = rendered-done c.sig_type.ensures c.in-Done.is in
-    (omega (arith, c.loop-i-test.true), le_trans h.invariant.1 (forms.type-ahead s h.p e a.left t), omega (arith, t.wrote.place, t.wrote.keeps.long), t.wrote.keeps.long ∙ c.push_sep-first.ensures.keeps.long ∙ h.invariant.3, λ b' r k. h.invariant.4 b' r (forms.parameters-more T s h.p h.i (n - (h.i + 1)) step c.push_sep-first.ensures t k))
+sig_parameters-sig_type-requires t c = (omega (arith, c.decreases, c.loop-i.invariant.0), c.requires.laid)
 
 pub sig_parameters-loop-i-preserved : goal.sig_parameters-loop-i-preserved
 sig_parameters-loop-i-preserved t c =
@@ -388,9 +353,17 @@ sig_parameters-loop-i-preserved t c =
     let h = c.loop-i in
     let n = a.count in
     let step : n - h.i ≡ suc (n - (h.i + 1)) = omega (arith, c.loop-i-test.true) in
-    let t = rendered-failed c.sig_type.ensures c.in-Failed.is in
-    let long = t.keeps.long ∙ c.push_sep-first.ensures.keeps.long in
-    (omega (arith, c.loop-i-test.true), le_trans h.invariant.1 (forms.failed-ahead s h.p e a.left t), omega (arith, long, h.invariant.2), long ∙ h.invariant.3, λ b' r k. h.invariant.4 b' r (forms.parameters-drop T s h.p h.i (n - (h.i + 1)) step c.push_sep-first.ensures t k))
+    elim c.match-sig_type.branch [
+      | sig_parameters-in-Ok w ↦
+          let t = text_in w.in-Ok.ensures in
+          rw (w.p-is, w.k-is)
+          (le_trans h.invariant.0 (forms.type-ahead s h.p e a.left t), omega (arith, t.wrote.place, t.wrote.keeps.long), t.wrote.keeps.long ∙ c.push_sep-first.ensures.keeps.long ∙ h.invariant.2, λ b' r k. h.invariant.3 b' r (forms.parameters-more T s h.p h.i (n - (h.i + 1)) step c.push_sep-first.ensures t k))
+      | sig_parameters-in-Err w ↦
+          let t = text_out w.in-Err.ensures in
+          let long = t.keeps.long ∙ c.push_sep-first.ensures.keeps.long in
+          rw (w.p-is, w.k-is)
+          (le_trans h.invariant.0 (forms.failed-ahead s h.p e a.left t), omega (arith, long, h.invariant.1), long ∙ h.invariant.2, λ b' r k. h.invariant.3 b' r (forms.parameters-drop T s h.p h.i (n - (h.i + 1)) step c.push_sep-first.ensures t k))
+    ]
 
 pub sig_parameters-returns : goal.sig_parameters-returns
 sig_parameters-returns t c =
@@ -401,7 +374,7 @@ sig_parameters-returns t c =
     let h = c.loop-i in
     let n = a.count in
     let z : n - h.i ≡ 0 = omega (arith, c.loop-i-test.false) in
-    h.invariant.4 _ _ (forms.parameters-none T s h.p h.i z h.invariant.2)
+    h.invariant.3 _ _ (forms.parameters-none T s h.p h.i z h.invariant.1)
 
 pub sig_plain-returns-then-sig-pos : goal.sig_plain-returns-then-sig-pos
 sig_plain-returns-then-sig-pos t c =
@@ -432,33 +405,35 @@ sig_type-returns-then-left-eq0 t c =
 
 pub sig_type-sig_plain-requires : goal.sig_type-sig_plain-requires
 sig_type-sig_plain-requires t c =
-    let leads = run-leads c.skip_run.ensures c.in-Over.is in
-    (omega (arith, c.decreases, leads.forward), (c.requires, (pos_of_ne-zero c.if-left-eq0.false, run-plain c.skip_run.ensures c.in-Over.is)))
+    let leads = run-leads c.in_ok-count.ensures in
+    (omega (arith, c.decreases, leads.forward), (c.requires, (pos_of_ne-zero c.if-left-eq0.false, run-plain c.in_ok-count.ensures)))
 
-pub sig_type-returns-in-Done : goal.sig_type-returns-in-Done
-sig_type-returns-in-Done t c =
+pub sig_type-returns : goal.sig_type-returns
+sig_type-returns t c =
     let a = c.args in
     let e = env_of a.tables.now a.layout.now a.strings.now a.blob.now a.owners.now in
-    let leads = run-leads c.skip_run.ensures c.in-Over.is in
-    forms.run-done e a.left a.sig.now a.pos (pos_of_ne-zero c.if-left-eq0.false) _ _ leads (rendered-done c.sig_plain.ensures c.in-Done.is) c.push_brackets.ensures
+    forms.run-done e a.left a.sig.now a.pos (pos_of_ne-zero c.if-left-eq0.false) _ _ (run-leads c.in_ok-count.ensures) (text_in c.in_ok-end.ensures) c.push_brackets.ensures
 
-pub sig_type-returns-in-Failed : goal.sig_type-returns-in-Failed
-sig_type-returns-in-Failed t c =
+pub sig_type-returns-in_err-end : goal.sig_type-returns-in_err-end
+sig_type-returns-in_err-end t c =
     let a = c.args in
     let e = env_of a.tables.now a.layout.now a.strings.now a.blob.now a.owners.now in
-    let leads = run-leads c.skip_run.ensures c.in-Over.is in
-    forms.run-failed e a.left a.sig.now a.pos (pos_of_ne-zero c.if-left-eq0.false) _ _ leads (rendered-failed c.sig_plain.ensures c.in-Failed.is)
+    let up = err_from_is_err_and c.from_residual-in_err-end.result c.from_residual-in_err-end.ensures.1 in
+    rw (up.1, up.2)
+    (forms.run-failed e a.left a.sig.now a.pos (pos_of_ne-zero c.if-left-eq0.false) _ _ (run-leads c.in_ok-count.ensures) (text_out c.in_err-end.ensures))
 
-pub sig_type-returns-in-Broken : goal.sig_type-returns-in-Broken
-sig_type-returns-in-Broken t c =
+pub sig_type-returns-in_err-count : goal.sig_type-returns-in_err-count
+sig_type-returns-in_err-count t c =
     let a = c.args in
     let e = env_of a.tables.now a.layout.now a.strings.now a.blob.now a.owners.now in
-    forms.run-broken e a.left a.sig.now a.pos (pos_of_ne-zero c.if-left-eq0.false) _ (run-stops c.skip_run.ensures c.in-Broken.is)
+    let up = err_from_is_err_and c.from_residual.result c.from_residual.ensures.1 in
+    rw (up.1, up.2)
+    (forms.run-broken e a.left a.sig.now a.pos (pos_of_ne-zero c.if-left-eq0.false) _ (run-stops c.in_err-count.ensures))
 
 pub type_name-sig_type-requires : goal.type_name-sig_type-requires
 type_name-sig_type-requires t c =
     let a = c.args in
-    let there = blob-there (c.spec_blob.ensures a.strings.now) c.in-At.is in
+    let there = blob-there (c.spec_blob.ensures a.strings.now) c.in_ok-place-in-2.was in
     (omega (arith, c.decreases, forms.cut-shorter _ _ _ _ there.1 c.cut-spec.ensures), c.requires)
 
 pub type_name-returns-in-0 : goal.type_name-returns-in-0
@@ -477,31 +452,23 @@ type_name-returns-in-1 t c =
     let T = type e a.left in
     rw (forms.name-ref e T a.index c.in-1.is) (c.push_ref_name.ensures a.blob.now)
 
-pub type_name-returns-in-Done : goal.type_name-returns-in-Done
+pub type_name-returns-in-Ok : goal.type_name-returns-in-Ok
 unfolding env_in
-type_name-returns-in-Done t c =
+type_name-returns-in-Ok t c =
     let a = c.args in
     let e = env_of a.tables.now a.layout.now a.strings.now a.blob.now a.owners.now in
     let T = type e a.left in
-    let there = blob-there (c.spec_blob.ensures a.strings.now) c.in-At.is in
-    rw (forms.name-spec e T a.index c.in-2.is) (forms.said-spec T there.0 (cut-is _ _ _ _ there.1 c.cut-spec.ensures).bytes (rendered-done c.sig_type.ensures c.in-Done.is))
+    let there = blob-there (c.spec_blob.ensures a.strings.now) c.in_ok-place-in-2.was in
+    rw (forms.name-spec e T a.index c.in-2.is) (forms.said-spec T there.0 (cut-is _ _ _ _ there.1 c.cut-spec.ensures).bytes (text_in c.in-Ok.ensures))
 
-pub type_name-returns-in-Failed : goal.type_name-returns-in-Failed
+pub type_name-returns-in-Err : goal.type_name-returns-in-Err
 unfolding env_in
-type_name-returns-in-Failed t c =
+type_name-returns-in-Err t c =
     let a = c.args in
     let e = env_of a.tables.now a.layout.now a.strings.now a.blob.now a.owners.now in
     let T = type e a.left in
-    let there = blob-there (c.spec_blob.ensures a.strings.now) c.in-At.is in
-    rw (forms.name-spec e T a.index c.in-2.is) (forms.said-no-spec T there.0 (cut-is _ _ _ _ there.1 c.cut-spec.ensures).bytes (rendered-failed c.sig_type.ensures c.in-Failed.is))
-
-pub type_name-returns-in-Missing : goal.type_name-returns-in-Missing
-unfolding env_in
-type_name-returns-in-Missing t c =
-    let a = c.args in
-    let e = env_of a.tables.now a.layout.now a.strings.now a.blob.now a.owners.now in
-    let T = type e a.left in
-    rw (forms.name-spec e T a.index c.in-2.is) (forms.said-blobless T (blob-missing (c.spec_blob.ensures a.strings.now) c.in-Missing.is) (kept_same _ _))
+    let there = blob-there (c.spec_blob.ensures a.strings.now) c.in_ok-place-in-2.was in
+    rw (forms.name-spec e T a.index c.in-2.is) (forms.said-no-spec T there.0 (cut-is _ _ _ _ there.1 c.cut-spec.ensures).bytes (text_out c.in-Err.ensures))
 
 pub type_name-returns-in_default : goal.type_name-returns-in_default
 type_name-returns-in_default t c =
@@ -509,3 +476,11 @@ type_name-returns-in_default t c =
     let e = env_of a.tables.now a.layout.now a.strings.now a.blob.now a.owners.now in
     let T = type e a.left in
     said-missing (forms.name-none e T a.index c.in_default.in_default-own.rest.0.0.1 c.in_default.in_default-own.rest.0.1 c.in_default.in_default-own.rest.1) (kept_same _ _)
+
+pub type_name-returns-in_err-place-in-2 : goal.type_name-returns-in_err-place-in-2
+unfolding env_in
+type_name-returns-in_err-place-in-2 t c =
+    let a = c.args in
+    let e = env_of a.tables.now a.layout.now a.strings.now a.blob.now a.owners.now in
+    let T = type e a.left in
+    rw (c.from_residual.ensures, forms.name-spec e T a.index c.in-2.is) (forms.said-blobless T (blob-missing (c.spec_blob.ensures a.strings.now) c.in_err-place-in-2.was) (kept_same _ _))

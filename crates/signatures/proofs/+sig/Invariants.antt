@@ -4,8 +4,7 @@ use Rattle.record.specs.Types.{type, parameters}
 use Rattle.signatures.specs.Environment.{env_of}
 use mathlib.Core.List.{List}
 use lib.ListN.{length}
-use Rattle.rendering.specs.Rendered.{Rendered}
-use Rattle.rendering.specs.declared.Rendering.{Rendering}
+use Rattle.rendering.specs.Rendered.{Rendering, Rendered}
 use Rattle.frames.specs.Stack.{whole, stack}
 use Rattle.signatures.proofs.+sig.Given as goal
 
@@ -67,13 +66,12 @@ decreases-sig_level-loop-p l = length l.sig - l.p
 
 -- What completes the rest completes the whole.
 abbrev pub invariant-sig_parameters-loop-i : goal.invariant-sig_parameters-loop-i
-invariant-sig_parameters-loop-i l = (l.i ≤ l.n)
-    × (l.pos ≤ l.p)
+invariant-sig_parameters-loop-i l = (l.pos ≤ l.p)
     × (l.k ≤ length l.buf + 1)
     × (length l.buf ≡ length l.initial.buf)
     × ((b' : List ℕ) (r : Rendering)
-    → Rendered (parameters (l.n - l.i) l.i (type (env_of l.tables l.layout l.strings l.blob l.owners) l.left) l.sig l.p) l.buf l.k b' r
-    → Rendered (parameters l.n 0 (type (env_of l.tables l.layout l.strings l.blob l.owners) l.left) l.sig l.pos) l.initial.buf l.at b' r)
+    → Rendered (parameters (l.count - l.i) l.i (type (env_of l.tables l.layout l.strings l.blob l.owners) l.left) l.sig l.p) l.buf l.k b' r
+    → Rendered (parameters l.count 0 (type (env_of l.tables l.layout l.strings l.blob l.owners) l.left) l.sig l.pos) l.initial.buf l.at b' r)
 
 abbrev pub decreases-sig_parameters-loop-i : goal.decreases-sig_parameters-loop-i
-decreases-sig_parameters-loop-i l = l.n - l.i
+decreases-sig_parameters-loop-i l = l.count - l.i

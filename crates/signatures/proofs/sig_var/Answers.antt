@@ -4,8 +4,8 @@ use Rattle.signatures.proofs.sig_var.Goals as goal
 
 pub returns-then-tag-eq19 : goal.returns-then-tag-eq19
 unfolding owner_by
-returns-then-tag-eq19 c = rw (eq-eqb c.args.tag 0x13 c.if-tag-eq19.true, ← c.owner_at.ensures) c.sig_generic.ensures
+returns-then-tag-eq19 c = rw (eq-eqb c.args.tag 0x13 c.if-tag-eq19.true) c.sig_generic.ensures
 
 pub returns : goal.returns
 unfolding owner_by
-returns c = rw (ne_eqb c.args.tag 0x13 c.if-tag-eq19.false, ← c.owner_at-2.ensures) c.sig_generic-2.ensures
+returns c = rw (ne_eqb c.args.tag 0x13 c.if-tag-eq19.false) c.sig_generic-2.ensures

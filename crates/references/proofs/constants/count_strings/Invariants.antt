@@ -1,6 +1,5 @@
 use mathlib.Core.Path.{◌≡◌}
-use Prim.Native.Nat.{◌-◌, ◌≤◌}
-use lib.ListN.{get_or}
+use Prim.Native.Nat.{◌≤◌}
 use Rattle.record.specs.References.{string_type}
 use Rattle.rows.specs.Held.{keyed}
 use Rattle.references.specs.Columns as columns
@@ -8,7 +7,4 @@ use Rattle.references.specs.Layout.{cell}
 use Rattle.references.proofs.constants.count_strings.Given as goal
 
 abbrev pub invariant-loop-i : goal.invariant-loop-i
-invariant-loop-i l = (l.i ≤ l.n) × (l.n ≡ get_or l.layout columns.constants 0) × (l.seen ≤ l.i) × (l.seen ≡ keyed (cell l.tables l.layout columns.constant_type) string_type l.i)
-
-abbrev pub decreases-loop-i : goal.decreases-loop-i
-decreases-loop-i l = l.n - l.i
+invariant-loop-i l = (l.seen ≤ l.i) × (l.seen ≡ keyed (cell l.tables l.layout columns.constant_type) string_type l.i)

@@ -1,8 +1,9 @@
 use Rattle.references.proofs.Parts.{told_part, told-absent}
+use Rattle.rows.proofs.Left.{err_left}
 use Rattle.references.proofs.texts.tell_part.Goals as goal
 
-pub returns-in-Found : goal.returns-in-Found
-returns-in-Found c = told_part _ c.in-Found.is c.requires c.cut-text.ensures c.push.ensures
+pub returns : goal.returns
+returns c = told_part _ c.in-Ok.is c.requires c.cut-text.ensures c.push.ensures
 
-pub returns-in-Absent : goal.returns-in-Absent
-returns-in-Absent c = told-absent _ c.in-Absent.is
+pub returns-in_default : goal.returns-in_default
+returns-in_default c = told-absent _ (err_left c.in_default.not-Ok).1

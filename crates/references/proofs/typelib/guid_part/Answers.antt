@@ -1,27 +1,35 @@
 use native.Mathlib.Omega.{arith}
 use Rattle.references.proofs.Guid.{Holds, guid-is, guid-not}
 use Rattle.references.proofs.typelib.guid_part.Goals as goal
+use Rattle.references.proofs.typelib.guid_part.Goals.{then-value-lt3-via-then-value-lt3, then-value-lt3-via-else-value-lt3+then-value-ne1, then-value-lt3-via-else-value-lt3+else-value-ne1+then-value-ne0, then-n-eq0-via-then-n-eq0, then-n-eq0-via-else-n-eq0+then-n-ge-NULL_STRING, then-n-eq0-via-else-n-eq0+else-n-ge-NULL_STRING+then-value-n}
+use borrow.Author.Rules.{rules}
 
 pub returns-then-value-lt3 : goal.returns-then-value-lt3
-returns-then-value-lt3 c = (omega arith, guid-not _ (λ h. omega (arith, h.room, c.if-value-lt3.true)))
-
-pub returns-then-value-ne1 : goal.returns-then-value-ne1
-returns-then-value-ne1 c = (omega arith, guid-not _ (λ h. c.if-value-ne1.true h.first))
-
-pub returns-then-value-ne0 : goal.returns-then-value-ne0
-returns-then-value-ne0 c = (omega arith, guid-not _ (λ h. c.if-value-ne0.true h.second))
+returns-then-value-lt3 c = (
+  omega arith,
+  guid-not _
+      (λ h.
+      elim c.then-value-lt3.branch [
+        | then-value-lt3-via-then-value-lt3 w ↦ omega (arith, h.room, w.if-value-lt3.true)
+        | then-value-lt3-via-else-value-lt3+then-value-ne1 w ↦ w.if-value-ne1.true h.first
+        | then-value-lt3-via-else-value-lt3+else-value-ne1+then-value-ne0 w ↦ w.if-value-ne0.true h.second
+      ]),
+)
 
 pub overflow_cast-n : goal.overflow_cast-n
-overflow_cast-n c = omega (arith, c.shared_slice_known-3-1.given 2)
+overflow_cast-n c = search rules
 
 pub returns-then-n-eq0 : goal.returns-then-n-eq0
-returns-then-n-eq0 c = (omega arith, guid-not _ (λ h. omega (arith, h.some_bytes, c.if-n-eq0.true)))
-
-pub returns-then-n-ge-NULL_STRING : goal.returns-then-n-ge-NULL_STRING
-returns-then-n-ge-NULL_STRING c = (omega arith, guid-not _ (λ h. omega (arith, h.not_null, c.if-n-ge-NULL_STRING.true)))
-
-pub returns-then-value-n : goal.returns-then-value-n
-returns-then-value-n c = (omega arith, guid-not _ (λ h. omega (arith, h.room, c.if-value-n.true)))
+returns-then-n-eq0 c = (
+  omega arith,
+  guid-not _
+      (λ h.
+      elim c.then-n-eq0.branch [
+        | then-n-eq0-via-then-n-eq0 w ↦ omega (arith, h.some_bytes, w.if-n-eq0.true)
+        | then-n-eq0-via-else-n-eq0+then-n-ge-NULL_STRING w ↦ omega (arith, h.not_null, w.if-n-ge-NULL_STRING.true)
+        | then-n-eq0-via-else-n-eq0+else-n-ge-NULL_STRING+then-value-n w ↦ omega (arith, h.room, w.if-value-n.true)
+      ]),
+)
 
 pub returns : goal.returns
 returns c =

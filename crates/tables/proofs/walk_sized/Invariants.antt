@@ -1,0 +1,9 @@
+use Rattle.std.proofs.Common.{◌≡◌, ℕ, ◌≤◌}
+use Rattle.tables.specs.Extents.{Gives}
+use Rattle.tables.proofs.WalkLoop.{Walking}
+use Rattle.tables.proofs.walk_sized.Given as goal
+
+abbrev pub invariant-loop-kind : goal.invariant-loop-kind
+invariant-loop-kind g l =
+    (l.at ≤ l.len) × (l.stop ≡ 64)
+    × ((size : ℕ → ℕ) → Gives (goal.F-post g l.size_of) size → Walking size l.counts l.len l.first l.starts l.sizes l.rows l.at l.kind)
