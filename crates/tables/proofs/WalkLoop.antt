@@ -146,8 +146,8 @@ module _ (size : ℕ → ℕ) (counts : List ℕ) (n first : ℕ) where
           final _ c m z (omega arith) (λ k u v. rw e (g k u v)),
         )
 
-    pub ended : {stop : ℕ} → stop ≡ 64 → 64 ≤ kind → ◌≡◌ {A = Walked} (record { stop = value stop; starts = starts; sizes = sizes; rows = rows }) (walked size counts n first)
-    ended {stop} e h = let q : stop ≡ kind = omega (arith, i.low) in rw q (left starts sizes rows kind i.starts-ok i.sizes-ok i.rows_ok (i.on ∙ stop-end kind h) (omega arith) (λ k u v. omega arith))
+    pub ended : 64 ≤ kind → ◌≡◌ {A = Walked} (record { stop = value kind; starts = starts; sizes = sizes; rows = rows }) (walked size counts n first)
+    ended h = left starts sizes rows kind i.starts-ok i.sizes-ok i.rows_ok (i.on ∙ stop-end kind h) (omega arith) (λ k u v. omega arith)
 
     module _ (h : kind < 64) where
       pub skipped : get_or counts kind 0 ≤ 0 → Walking starts sizes rows at (kind + 1)

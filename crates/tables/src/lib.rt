@@ -66,27 +66,29 @@ fn walk_sized<F: Fn(usize) -> u32>(
     let mut sizes = [0; 64];
     let mut rows = [0; 64];
     let mut at = first;
-    let mut stop = 64;
-    for kind in 0..64 {
+    let mut kind = 0;
+    // A `loop`, since a `for` has no value: the kind that it is left at is the break's.
+    let stop = loop {
+        if 64 <= kind {
+            break kind;
+        }
         let n = counts[kind];
-        if n == 0 {
-            continue;
+        if 0 < n {
+            if KNOWN <= kind {
+                break kind;
+            }
+            let size = size_of(kind);
+            let whole = whole_rows(len - at, size, n);
+            starts[kind] = at;
+            sizes[kind] = size;
+            rows[kind] = whole;
+            if whole < n {
+                break kind;
+            }
+            at += n as usize * size as usize;
         }
-        if KNOWN <= kind {
-            stop = kind;
-            break;
-        }
-        let size = size_of(kind);
-        let whole = whole_rows(len - at, size, n);
-        starts[kind] = at;
-        sizes[kind] = size;
-        rows[kind] = whole;
-        if whole < n {
-            stop = kind;
-            break;
-        }
-        at += n as usize * size as usize;
-    }
+        kind += 1;
+    };
     Extents {
         answer: Ok(stop),
         starts,
