@@ -15,7 +15,10 @@ pub fn put_before(buf: &mut [u8], floor: usize, end: usize, src: &[u8]) -> Optio
         return None;
     }
     let p = end - src.len();
-    buf[p..end].copy_from_slice(src);
+    // Byte by byte, as in `buffers::push`.
+    for i in 0..src.len() {
+        buf[p + i] = src[i];
+    }
     Some(p)
 }
 
@@ -36,5 +39,7 @@ pub fn move_down(buf: &mut [u8], at: usize, from: usize)
     requires { (at ≤ from) × (from ≤ length buf.old) }
     ensures { Moved buf.old at from buf.new }
 {
-    buf.copy_within(from.., at);
+    for j in 0..buf.len() - from {
+        buf[at + j] = buf[from + j];
+    }
 }

@@ -63,7 +63,7 @@ part-more : (s : List ℕ) (start n m : ℕ) → part s start (n + m) ≡ part s
 part-more s start n m = take-add n m (drop start s) ∙ ap (λ (u : List ℕ). part s start n ++ take m u) (drop-drop n start s)
 
 -- Parts of two buffers that are byte by byte the same.
-part_same : (b b' : List ℕ) (at at' n : ℕ) → at + n ≤ length b → at' + n ≤ length b'
+pub part_same : (b b' : List ℕ) (at at' n : ℕ) → at + n ≤ length b → at' + n ≤ length b'
     → ((i : ℕ) → i < n → get_or b' (at' + i) 0 ≡ get_or b (at + i) 0) → part b' at' n ≡ part b at n
 part_same b b' at at' n h h' same =
     let long = part_length b at n h in

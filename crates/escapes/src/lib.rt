@@ -78,8 +78,10 @@ fn copy_away(out: &mut [u8], start: usize, end: usize, gap: usize)
     ensures { Kept out.old (start + gap) out.new × (part out.new (start + gap) (end - start) ≡ part
         out.old start (end - start)) }
 {
-    let (front, behind) = out.split_at_mut(start + gap);
-    behind[..end - start].copy_from_slice(&front[start..end]);
+    // Byte by byte, as in `buffers::push`.
+    for i in 0..end - start {
+        out[start + gap + i] = out[start + i];
+    }
 }
 
 // A digit from 0 to 15.
