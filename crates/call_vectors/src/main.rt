@@ -10,14 +10,14 @@
 
 mod recorded;
 
-use recorded::agrees;
-use replaying::replay_blocks;
+use recorded::{agrees, options_in};
+use replaying::replay_blocks_sharing;
 use std::fs;
 
 fn main(rt: HostRuntime) {
     for path in ["cases", "steps", "modes", "wrong"] {
         match fs::open(&rt, path) {
-            Ok(mut file) => replay_blocks(&rt, &mut file, agrees),
+            Ok(mut file) => replay_blocks_sharing(&rt, &mut file, options_in, agrees),
             Err(why) => {
                 let _ = eprintln!(rt; "{path}: {why}");
             }

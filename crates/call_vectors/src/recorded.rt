@@ -53,7 +53,7 @@ struct Asked<'a> {
 }
 
 // Whether the answer of a line agrees, if it holds one.
-pub fn agrees(block: Block<'_>, line: &[u8]) -> Option<bool> {
+pub fn agrees(block: Block<'_>, options: Options, line: &[u8]) -> Option<bool> {
     let (call, numbers) = cut_at(line, b' ');
     if call == OPTIONS {
         return None;
@@ -61,7 +61,7 @@ pub fn agrees(block: Block<'_>, line: &[u8]) -> Option<bool> {
     let (before, allowed) = cut_at(line, b'/');
     let (_, answer) = cut_at(line, b'=');
     let answer = answer.get(1..).unwrap_or_default();
-    let asked = asked_in(block, call, numbers, allowed);
+    let asked = asked_in(block, options, call, numbers, allowed);
     if before.len() == line.len() {
         return Some(agrees_so(Way::Plain, asked, answer));
     }
@@ -70,7 +70,13 @@ pub fn agrees(block: Block<'_>, line: &[u8]) -> Option<bool> {
 }
 
 // The call with the numbers before the slash, and behind it.
-fn asked_in<'a>(block: Block<'a>, call: &'a [u8], numbers: &[u8], allowed: &[u8]) -> Asked<'a> {
+fn asked_in<'a>(
+    block: Block<'a>,
+    options: Options,
+    call: &'a [u8],
+    numbers: &[u8],
+    allowed: &[u8],
+) -> Asked<'a> {
     let (class, rest) = cut_at(numbers, b' ');
     let (member, rest) = cut_at(rest, b' ');
     let (part, _) = cut_at(rest, b' ');
@@ -78,7 +84,7 @@ fn asked_in<'a>(block: Block<'a>, call: &'a [u8], numbers: &[u8], allowed: &[u8]
     let (left, _) = cut_at(rest, b' ');
     Asked {
         block,
-        options: options_in(block.cases),
+        options,
         call,
         class: ClassNumber(read_u32(class)),
         member: read_u32(member),
@@ -93,7 +99,7 @@ fn read_u32(digits: &[u8]) -> u32 {
 }
 
 // The options of a block, from what stands behind its streams.
-fn options_in(cases: &[u8]) -> Options {
+pub fn options_in(cases: &[u8]) -> Options {
     let (line, _) = cut_at(cases, b'\n');
     let (key, bits) = cut_at(line, b' ');
     if key == OPTIONS {

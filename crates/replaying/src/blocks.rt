@@ -5,7 +5,6 @@ ghost use Rattle.std.specs.Io.KnownBytes.{Consumes};
 
 use crate::tally::Tally;
 use case_text::{cut_at, is_case, read_hex};
-use std::io;
 use std::io::Read;
 
 // Bytes for a file of cases, and for a stream.
@@ -32,6 +31,19 @@ pub fn replay_blocks<R: Read, F: Fn(Block<'_>, &[u8]) -> Option<bool>>(
     requires { F.IsAlwaysCallable agrees }
     ensures { (read : List ℕ) × (length read ≤ ROOM) × Consumes (R.remaining file.old) (R.remaining file.new) read }
 {
+    replay_blocks_sharing(rt, file, |_| (), |block, (), line| agrees(block, line))
+}
+
+// The same, also by what all lines of a block share, which is read once, of what stands behind its streams.
+pub fn replay_blocks_sharing<
+    R: Read,
+    S: Copy,
+    G: Fn(&[u8]) -> S,
+    F: Fn(Block<'_>, S, &[u8]) -> Option<bool>,
+>(rt: &impl Print, file: &mut R, shared_in: G, agrees: F)
+    requires { G.IsAlwaysCallable shared_in × F.IsAlwaysCallable agrees }
+    ensures { (read : List ℕ) × (length read ≤ ROOM) × Consumes (R.remaining file.old) (R.remaining file.new) read }
+{
     let mut space = file_space();
     let n = intake::read_full(file, &mut space);
     if n == ROOM {
@@ -39,7 +51,7 @@ pub fn replay_blocks<R: Read, F: Fn(Block<'_>, &[u8]) -> Option<bool>>(
     }
     let text = numbers::cut(&space, 0, n);
     for block in text.split(|b| *b == b'@').skip(1) {
-        let _ = replay_block(rt, block, &agrees);
+        replay_block(rt, block, &shared_in, &agrees);
     }
 }
 
@@ -48,12 +60,13 @@ fn file_space() -> [u8; ROOM] {
     [0; ROOM]
 }
 
-fn replay_block<F: Fn(Block<'_>, &[u8]) -> Option<bool>>(
+fn replay_block<S: Copy, G: Fn(&[u8]) -> S, F: Fn(Block<'_>, S, &[u8]) -> Option<bool>>(
     rt: &impl Print,
     text: &[u8],
+    shared_in: &G,
     agrees: &F,
-) -> io::Result<()>
-    requires { F.IsAlwaysCallable agrees.now }
+)
+    requires { G.IsAlwaysCallable shared_in.now × F.IsAlwaysCallable agrees.now }
 {
     let (name, rest) = cut_at(text, b'\n');
     let (line1, rest) = cut_at(rest, b'\n');
@@ -68,8 +81,8 @@ fn replay_block<F: Fn(Block<'_>, &[u8]) -> Option<bool>>(
         blob: read_stream(line3, &mut blob),
         cases,
     };
-    let tally = replay_lines(rt, block, agrees);
-    write_tally(rt, name, tally)
+    let tally = replay_lines(rt, block, shared_in(cases), agrees);
+    write_tally(rt, name, tally);
 }
 
 // The bytes behind the key of a stream: none where they do not fit.
@@ -79,9 +92,10 @@ fn read_stream<'a>(line: &[u8], space: &'a mut [u8]) -> &'a [u8] {
     numbers::cut(space, 0, n)
 }
 
-fn replay_lines<F: Fn(Block<'_>, &[u8]) -> Option<bool>>(
+fn replay_lines<S: Copy, F: Fn(Block<'_>, S, &[u8]) -> Option<bool>>(
     rt: &impl Print,
     block: Block<'_>,
+    shared: S,
     agrees: &F,
 ) -> Tally
     requires { F.IsAlwaysCallable agrees.now }
@@ -89,29 +103,30 @@ fn replay_lines<F: Fn(Block<'_>, &[u8]) -> Option<bool>>(
     let mut tally = Tally::default();
     let lines = block.cases.split(|b| *b == b'\n');
     for line in lines.filter(|line| is_case(line)) {
-        let Some(agrees) = agrees(block, line) else {
+        let Some(agrees) = agrees(block, shared, line) else {
             continue;
         };
         if !agrees {
-            let _ = write_line(rt, line);
+            write_line(rt, line);
         }
         tally.count(agrees);
     }
     tally
 }
 
-fn write_line(rt: &impl Print, line: &[u8]) -> io::Result<()> {
-    rt.write_all(b"FAIL  ")?;
-    rt.write_all(line)?;
-    rt.write_all(b"\n")
+// Each part is tried, also where one before it cannot be written.
+fn write_line(rt: &impl Print, line: &[u8]) {
+    let _ = rt.write_all(b"FAIL  ");
+    let _ = rt.write_all(line);
+    let _ = rt.write_all(b"\n");
 }
 
-fn write_tally(rt: &impl Print, name: &[u8], tally: Tally) -> io::Result<()> {
-    rt.write_all(if tally.differed == 0 {
+fn write_tally(rt: &impl Print, name: &[u8], tally: Tally) {
+    let _ = rt.write_all(if tally.differed == 0 {
         b"ok   "
     } else {
         b"FAIL "
-    })?;
-    rt.write_all(name)?;
-    println!(rt; ": {tally}")
+    });
+    let _ = rt.write_all(name);
+    let _ = println!(rt; ": {tally}");
 }

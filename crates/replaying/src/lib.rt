@@ -8,7 +8,7 @@ mod cases;
 mod expected;
 mod tally;
 
-pub use blocks::{Block, replay_blocks};
+pub use blocks::{Block, replay_blocks, replay_blocks_sharing};
 pub use cases::{read_front, read_length, replay_file};
 pub use expected::{Refused, holds, is_answer};
 pub use tally::Tally;
