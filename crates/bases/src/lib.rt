@@ -153,17 +153,17 @@ pub fn push_base(
         let Some(end) = push_type(buf, at, tables, strings, blob, layout, row, index) else {
             continue;
         };
-        seen += 1;
-        if nth < seen {
+        if seen == nth {
             return Based {
                 place: Some(end),
                 bases: Bases {
                     row: key,
-                    seen,
+                    seen: seen + 1,
                     tried: i + 1,
                 },
             };
         }
+        seen += 1;
     }
     Based {
         place: None,

@@ -82,16 +82,18 @@ pub fn ascend(
     let mut n = used;
     while 0 < n {
         let top = n - 1;
-        match end_frame(buf, k, sig, p, frames[top])? {
-            Ended::Closed(end, next) => {
+        // The failure has an arm of its own, which must-fail/failure_in_a_frame answers as a success.
+        match end_frame(buf, k, sig, p, frames[top]) {
+            Ok(Ended::Closed(end, next)) => {
                 k = end;
                 p = next;
                 n = top;
             }
-            Ended::Next(end, next, v) => {
+            Ok(Ended::Next(end, next, v)) => {
                 frames[top] = v;
                 return Ok(Ascent::More(end, next, n));
             }
+            Err(next) => return Err(next),
         }
     }
     Ok(Ascent::Over(k, p))

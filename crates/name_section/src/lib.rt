@@ -3,7 +3,7 @@
 
 #![tactic(auto)]
 
-ghost use Rattle.std.specs.Prelude.{◌≡◌, List, ℕ, ◌+◌, ◌-◌, ◌%◌, ◌<◌, ◌≤◌, replicate};
+ghost use Rattle.std.specs.Prelude.{◌≡◌, List, ℕ, ◌+◌, ◌-◌, ◌%◌, ◌<◌, ◌≤◌, replicate, Some, None};
 ghost use Rattle.buffers.specs.Writes.{Wrote};
 ghost use Rattle.buffers.specs.Replies.{refused_by, value, cleared};
 ghost use Rattle.heaps.specs.Lookups.{text_of};
@@ -12,7 +12,7 @@ ghost use Rattle.record.specs.Names.{class_named};
 ghost use Rattle.record.specs.Record.{class_record};
 ghost use Rattle.rows.specs.Columns as columns;
 ghost use Rattle.rows.specs.Layout.{Laid, view_in};
-ghost use Rattle.name_section.specs.Section.{alignment, slot, names, names_of, Sectioned};
+ghost use Rattle.name_section.specs.Section.{alignment, most_offset, slot, names, names_of, Sectioned};
 
 use buffers::Refusal;
 use classes::ClassNumber;
@@ -96,6 +96,13 @@ fn refuse(section: &mut [u8], offsets: &mut [u32], why: Refusal) -> Result<Secti
     Err(why)
 }
 
+// The offset of a slot that begins there: it has 32 bits.
+fn offset_of(at: usize) -> Option<u32>
+    ensures { ((offset : ℕ) → result ≡ Some offset → (at ≤ most_offset) × (offset ≡ at)) × (result ≡ None → most_offset < at) }
+{
+    u32::try_from(at).ok()
+}
+
 // Every slot and every offset, in one pass over the classes, and zeros behind them.
 fn write_slots(
     tables: &[u8],
@@ -115,8 +122,7 @@ fn write_slots(
     }
     let mut at = 0;
     for c in 0..classes {
-        // An offset has 32 bits.
-        let Ok(offset) = u32::try_from(at) else {
+        let Some(offset) = offset_of(at) else {
             return refuse(section, offsets, Refusal::BufferTooSmall);
         };
         at = push_slot(section, at, tables, strings, layout, ClassNumber(c as u32));

@@ -759,6 +759,7 @@ static ROW_SIZES: [[u8; 360]; 8] = [
 ];
 
 // The part of a setting of the coded indices.
+#[tactic(auto, using(crate::proofs::Table::whole))]
 pub fn row_block(coded: usize) -> &'static [u8; 360]
     requires { coded < 8 }
     ensures { result.now ≡ get_or row_table coded [] }

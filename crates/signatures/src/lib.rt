@@ -265,13 +265,15 @@ fn sig_level(
         let (end, next) = sig_inner(
             buf, k, tables, strings, blob, layout, owners, sig, to.at, left, to.full,
         )?;
-        match frames::ascend(buf, end, sig, next, slots, to.used)? {
-            Ascent::More(place, first, still) => {
+        // The failure has an arm of its own, which must-fail/failure_ends_the_innermost answers as a success.
+        match frames::ascend(buf, end, sig, next, slots, to.used) {
+            Ok(Ascent::More(place, first, still)) => {
                 k = place;
                 p = first;
                 n = still;
             }
-            Ascent::Over(place, last) => return Ok((place, last)),
+            Ok(Ascent::Over(place, last)) => return Ok((place, last)),
+            Err(last) => return Err(last),
         }
     }
     Err(p)

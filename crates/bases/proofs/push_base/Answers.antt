@@ -17,13 +17,16 @@ loop-i-init c =
 pub overflow_add-seen : goal.overflow_add-seen
 overflow_add-seen c = record { fits = omega (arith, search-seen c.loop-i.invariant, c.loop-i-test.true, c.count_rows-n.ensures, rows-narrow c.requires.laid columns.impl_class (omega arith)) }
 
-pub returns-then-nth-seen : goal.returns-then-nth-seen
-returns-then-nth-seen c =
-    let found = search-found c.loop-i.invariant (c.in-Some.ensures _ _) c.wide-key.ensures.0 c.if-nth-seen.true c.in-Some-push_type.ensures in
+pub overflow_add-result : goal.overflow_add-result
+overflow_add-result c = record { fits = omega (arith, search-seen c.loop-i.invariant, c.loop-i-test.true, c.count_rows-n.ensures, rows-narrow c.requires.laid columns.impl_class (omega arith)) }
+
+pub returns-then-seen-nth : goal.returns-then-seen-nth
+returns-then-seen-nth c =
+    let found = search-found c.loop-i.invariant (c.in-Some.ensures _ _) c.wide-key.ensures.0 (omega (arith, c.if-seen-nth.true)) c.in-Some-push_type.ensures in
     (found.0, found.1, λ e. absurd (some-ne-none _ (ap place_says e)))
 
 pub loop-i-preserved : goal.loop-i-preserved
-loop-i-preserved c = search-more c.loop-i.invariant (c.in-Some.ensures _ _) c.if-nth-seen.false c.in-Some-push_type.ensures
+loop-i-preserved c = search-more c.loop-i.invariant (c.in-Some.ensures _ _) (omega (arith, c.loop-i.invariant.few, c.if-seen-nth.false)) c.in-Some-push_type.ensures
 
 pub loop-i-preserved-in_default-push_type : goal.loop-i-preserved-in_default-push_type
 loop-i-preserved-in_default-push_type c = search-on c.loop-i.invariant (c.in-Some.ensures _ _) c.in_default-push_type.ensures

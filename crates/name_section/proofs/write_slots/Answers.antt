@@ -18,7 +18,7 @@ pub returns-in_default : goal.returns-in_default
 returns-in_default c = λ blob.
     let l = c.loop-c in
     let count = names-counted c.requires c.count_classes-classes.ensures c.args.strings.now blob in
-    unfit l.invariant.0 l.invariant.1 (fill-far (l.invariant.2 blob) (omega (arith, count, c.loop-c-test.true)) (omega (arith, c.in_default.ensures))) c.refuse-in_default.ensures
+    unfit l.invariant.0 l.invariant.1 (fill-far (l.invariant.2 blob) (omega (arith, count, c.loop-c-test.true)) (c.in_default.ensures.1 refl)) c.refuse-in_default.ensures
 
 pub overflow_cast-c : goal.overflow_cast-c
 overflow_cast-c c = omega (arith, number_small c.requires c.count_classes-classes.ensures _ c.loop-c-test.true)
@@ -42,12 +42,12 @@ loop-c-preserved c =
     let count = c.count_classes-classes.ensures in
     let slot = c.push_slot-at.ensures in (
       (slot []).keeps.long ∙ l.invariant.0,
-      length-set l.offsets l.c c.in-Ok.offset ∙ l.invariant.1,
+      length-set l.offsets l.c c.in-Some.offset ∙ l.invariant.1,
       λ blob.
           let all = names-counted c.requires count c.args.strings.now blob in
           let is = name_of c.requires count c.args.strings.now blob _ less in
-          let fits = c.in-Ok.ensures in
-          rw fits.1 (fill-turn (l.invariant.2 blob) (omega (arith, all, less)) is (slot blob) (omega (arith, l.invariant.1)) (omega (arith, fits.0)) c.if-section-at.false),
+          let fits = c.in-Some.ensures.0 _ refl in
+          rw fits.1 (fill-turn (l.invariant.2 blob) (omega (arith, all, less)) is (slot blob) (omega (arith, l.invariant.1)) fits.0 c.if-section-at.false),
     )
 
 pub returns : goal.returns

@@ -272,7 +272,7 @@ sig_level-loop-p-smaller t c =
     let came = turns.came c.in-Ok.ensures in
     let text = text_in c.in_ok-end.ensures in
     let on = forms.type-beyond e a.left a.sig.now _ text in
-    let more = rw c.in-More.is at c.in_ok-place.ensures in
+    let more = rw c.in-Ok-More.field-0-is at c.in-Ok-More.ensures in
     let far = rendering.more-ahead more in
     omega (arith, c.loop-p-test.true, came.ahead, on, far.0)
 
@@ -284,7 +284,7 @@ sig_level-loop-p-preserved t c =
     let came = turns.came c.in-Ok.ensures in
     let text = text_in c.in_ok-end.ensures in
     let on = forms.type-beyond e a.left a.sig.now _ text in
-    let more = rw c.in-More.is at c.in_ok-place.ensures in
+    let more = rw c.in-Ok-More.field-0-is at c.in-Ok-More.ensures in
     let far = rendering.more-ahead more in
     let room = c.ascend.auto.frames in (
       omega (arith, c.loop-p.invariant.0, came.few, on, far.0, far.1),
@@ -294,23 +294,21 @@ sig_level-loop-p-preserved t c =
       λ b' r y. c.loop-p.invariant.4 b' r (rendering.level-more (type e a.left) level came.moved text more y),
     )
 
-pub sig_level-returns-in-Over : goal.sig_level-returns-in-Over
-sig_level-returns-in-Over t c =
+pub sig_level-returns-in-Ok-Over : goal.sig_level-returns-in-Ok-Over
+sig_level-returns-in-Ok-Over t c =
     let a = c.args in
     let e = env_of a.tables.now a.layout.now a.strings.now a.blob.now a.owners.now in
     let level = forms.type-level e a.left c.requires.left_nonzero.0 in
     let came = turns.came c.in-Ok.ensures in
-    c.loop-p.invariant.4 _ _ (rendering.level-over (type e a.left) level came.moved (text_in c.in_ok-end.ensures) (rw c.in-Over.is at c.in_ok-place.ensures))
+    c.loop-p.invariant.4 _ _ (rendering.level-over (type e a.left) level came.moved (text_in c.in_ok-end.ensures) (rw c.in-Ok-Over.field-0-is at c.in-Ok-Over.ensures))
 
-pub sig_level-returns-in_err-place : goal.sig_level-returns-in_err-place
-sig_level-returns-in_err-place t c =
+pub sig_level-returns-in-Err-ascend : goal.sig_level-returns-in-Err-ascend
+sig_level-returns-in-Err-ascend t c =
     let a = c.args in
     let e = env_of a.tables.now a.layout.now a.strings.now a.blob.now a.owners.now in
     let level = forms.type-level e a.left c.requires.left_nonzero.0 in
     let came = turns.came c.in-Ok.ensures in
-    let up = err_from_is_err_and c.from_residual-in_err-place.result c.from_residual-in_err-place.ensures.1 in
-    rw (up.1, up.2)
-    (c.loop-p.invariant.4 _ _ (rendering.level-broken (type e a.left) level came.moved (text_in c.in_ok-end.ensures) c.in_err-place.ensures))
+    c.loop-p.invariant.4 _ _ (rendering.level-broken (type e a.left) level came.moved (text_in c.in_ok-end.ensures) c.in-Err-ascend.ensures)
 
 pub sig_level-returns-in_err-end : goal.sig_level-returns-in_err-end
 sig_level-returns-in_err-end t c =
