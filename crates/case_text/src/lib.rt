@@ -18,7 +18,7 @@ pub fn cut_at<'a>(s: &'a [u8], end: u8) -> (&'a [u8], &'a [u8])
 }
 
 // What stands behind the first n bytes and one more.
-fn after<'a>(s: &'a [u8], n: usize) -> &'a [u8]
+pub fn after<'a>(s: &'a [u8], n: usize) -> &'a [u8]
     ensures { CutOf result s.entry (n + 1) (length s.now - (n + 1)) }
 {
     if s.len() <= n {

@@ -88,8 +88,8 @@ name_or_why (missing why) = refused_by (NoName why)
 unfoldable pub blob : List ℕ → ℕ → Option (List ℕ)
 blob s i = bytes_of s (blob_at s i)
 
--- What each case of a lookup says: 0 where there is something, or the number that says no, and the reason beside it; and where the part
--- handed back begins and how long it is. Document 01 leaves the part beside a refusal free: it is the empty part at the start of the heap
+-- What each case of a lookup says in numbers: 0 where there is something, or the number that says no, and the reason beside it; and where
+-- the part begins and how long it is. Document 01 leaves the part beside a refusal free: for C it is the empty part at the start of the heap
 -- that was meant.
 abbrev pub part_number : Part → ℕ
 part_number (Ok p) = 0

@@ -11,7 +11,7 @@ use Rattle.numbers.specs.Parts.{CutOf}
 use Rattle.numbers.proofs.Parts.{cut-is}
 use Rattle.buffers.specs.Texts.{Text}
 use Rattle.buffers.specs.Writes.{Kept, Wrote, Said, written}
-use Rattle.buffers.proofs.Writing.{kept_same, said-some, said-none, said-missing}
+use Rattle.buffers.proofs.Writing.{said-some, said-none, said-missing}
 use Rattle.heaps.specs.Lookups.{Part, string_at, string}
 use Rattle.heaps.proofs.Lookups.{string-within, string-some, string-none}
 use Rattle.record.specs.Types.{generic}
@@ -51,9 +51,9 @@ module _ {t l : List ℕ} (laid : Laid t l) (i : ℕ) {owner : Owner} where
 
 -- The parameter that a signature says by its place.
 module _ (name : ℕ → Option Text) (s : List ℕ) (pos : ℕ) where
-  pub generic-failed : {next : ℕ} → none_at next ≡ uint s pos → {b : List ℕ} {at : ℕ} → Rendered (generic name s pos) b at b (Err next)
+  pub generic-failed : {next : ℕ} → none_at next ≡ uint s pos → {b b' : List ℕ} {at : ℕ} → Kept b at b' → Rendered (generic name s pos) b at b' (Err next)
   unfolding generic
-  generic-failed told = failed (rw (← told)) (rw (← told)) (kept_same _ _)
+  generic-failed told kept = failed (rw (← told)) (rw (← told)) kept
 
   -- The place i was told as j, and what appending its name came to as r.
   module _ {i next : ℕ} (told : some_at i next ≡ uint s pos) {j : ℕ} (same : j ≡ i) {b b' : List ℕ} {at : ℕ} where

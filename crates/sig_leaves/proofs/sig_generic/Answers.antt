@@ -1,4 +1,5 @@
 use Rattle.std.proofs.lemmas.Result.{err_from_is_err_and}
+use Rattle.buffers.proofs.Writing.{kept_same}
 use Rattle.sig_leaves.proofs.Generics.{generic-failed, generic-done, generic-missing}
 use Rattle.sig_leaves.proofs.sig_generic.Goals as goal
 
@@ -11,4 +12,4 @@ returns-in-None c = λ blob. generic-missing _ _ _ c.in_ok-i.ensures c.wide.ensu
 pub returns-in_err-i : goal.returns-in_err-i
 returns-in_err-i c = λ blob.
     let up = err_from_is_err_and c.from_residual.result c.from_residual.ensures.1 in
-    rw (up.1, up.2) (generic-failed _ _ _ c.in_err-i.ensures)
+    rw (up.1, up.2) (generic-failed _ _ _ c.in_err-i.ensures (kept_same _ _))
